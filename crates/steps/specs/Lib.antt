@@ -1,0 +1,5 @@
+pub mod Step
+pub mod Choice
+pub mod Rules
+pub mod Calls
+pub mod Rows

@@ -1,0 +1,52 @@
+-- 01, "The desk program": the ten rows, as one statement over one list. Assumes nothing.
+use Prim.Native.Nat.{ℕ}
+use mathlib.Core.List.{List, [], _∷_, map}
+use mathlib.Core.Path.{_≡_, refl}
+use Rattle.words.specs.Lists.{keep, first, orElse, blocks, row, part, upd, below}
+use Rattle.words.specs.Tests.{all, zeros, implies}
+use Rattle.vectors.specs.Vector.{dominates, join, greatest}
+use Rattle.logs.specs.Write.{before, same}
+use Rattle.logs.specs.Log.{insert, insertAll, lastOn, lacking, follow}
+use Rattle.logs.specs.Rules.{inRange, goesOn, ordered, ofOrigin, upTo, greatestClock, greatestOf, sameAll, agrees}
+use Rattle.logs.specs.Places.{spelled, places, entry, entries}
+use Rattle.tables.specs.Size.{Size, within}
+use Rattle.tables.specs.State.{withVector, withLog, withSlot}
+use Rattle.tables.specs.Layout.{header, vectorAt, countAt, logAt, slotWidth, slotAt, size, headWords, slotWords, encode, sizeOf, logPart, slotPart, sessionOf, slotOf, decode}
+use Rattle.tables.specs.Sound.{ruleA, ruleB, ruleC, ruleD, ruleE, slotSound, ruleF, soundAt, sound}
+use Rattle.tables.specs.Make.{fresh}
+use Rattle.steps.specs.Step.{Step, Answer, reachInRange, asked, refused, done}
+use Rattle.steps.specs.Choice.{readYourWrites, monotonicReads, writesFollowReads, monotonicWrites, upToDateToRead, upToDateToWrite, reaches, startOf, next, onwards, around, choose}
+use Rattle.steps.specs.Rules.{refuse, newSession, opening, closing, readAnswer, afterRead, readFrom, reading, newWrite, afterWrite, accepted, writeAnswer, writeTo, hasRoom, writing, goingOver, sent, received, exchanging, obeyed, rule}
+use Rattle.steps.specs.Calls.{written, step, onward, walk}
+
+-- A row: the step's words, and the answer's.
+pub record Row : Type 0 where
+  pub asks : Step
+  pub gets : Answer
+
+abbrev line : (kind a b c d code server origin clock value : ℕ) → Row
+line kind a b c d code server origin clock value =
+    record {
+      asks = record { kind = kind; a = a; b = b; c = c; d = d };
+      gets = record { code = code; server = server; origin = origin; clock = clock; value = value };
+    }
+
+-- Input `2 4 1`, and then row by row.
+abbrev pub rows : List Row
+rows =
+    line 1 0 1 0 0 0 0 0 0 0
+    ∷ line 4 0 7 50 1 0 0 0 1 50
+    ∷ line 3 0 7 2 0 6 0 0 0 0
+    ∷ line 5 0 1 9 0 0 1 0 0 1
+    ∷ line 3 0 7 2 0 0 1 0 1 50
+    ∷ line 4 0 7 60 2 0 1 1 2 60
+    ∷ line 4 0 7 70 1 0 0 0 2 70
+    ∷ line 3 0 7 1 0 6 0 0 0 0
+    ∷ line 5 1 0 9 0 0 0 1 0 1
+    ∷ line 3 0 7 3 0 0 0 1 2 60
+    ∷ []
+
+-- The rules give each row its answer.
+pub ten-rows : walk (fresh (record { n = 2; l = 4; p = 1 })) (map (λ r. r .asks) rows) .answers ≡ map (λ r. r .gets) rows
+unfolding keep first orElse blocks row part upd below all zeros implies dominates join greatest before same insert insertAll lastOn lacking follow inRange goesOn ordered ofOrigin upTo greatestClock greatestOf sameAll agrees spelled places entry entries within withVector withLog withSlot header vectorAt countAt logAt slotWidth slotAt size headWords slotWords encode sizeOf logPart slotPart sessionOf slotOf decode ruleA ruleB ruleC ruleD ruleE slotSound ruleF soundAt sound fresh reachInRange asked refused done readYourWrites monotonicReads writesFollowReads monotonicWrites upToDateToRead upToDateToWrite reaches startOf next onwards around choose refuse newSession opening closing readAnswer afterRead readFrom reading newWrite afterWrite accepted writeAnswer writeTo hasRoom writing goingOver sent received exchanging obeyed rule written step onward walk
+ten-rows = refl

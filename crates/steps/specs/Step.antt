@@ -1,0 +1,80 @@
+-- A step's five words, what they ask for, and an answer's five words. Assumes nothing.
+use Prim.Native.Nat.{ℕ, _/_, _^_}
+use mathlib.Core.Bool.{Bool, cond, _&&_}
+use mathlib.Core.List.{List, [], _∷_, _++_}
+use lib.Dec.{ltb, eqb}
+use Rattle.tables.specs.Size.{Size, items, sums}
+
+-- 01, "Steps": "A step is five words: kind and four arguments; unused words must be 0."
+pub record Step : Type 0 where
+  pub kind : ℕ
+  pub a : ℕ
+  pub b : ℕ
+  pub c : ℕ
+  pub d : ℕ
+
+-- What a step asks for. Arguments as 01's table of kinds has them.
+pub data Op : Type 0 where
+  bad : Op
+  opens : (slot guarantees : ℕ) → Op
+  closes : (slot : ℕ) → Op
+  reads : (slot item reach : ℕ) → Op
+  writes : (slot item value reach : ℕ) → Op
+  exchanges : (source target most : ℕ) → Op
+
+-- "Reach is a bit set of servers, bit i for server i; bits at or above N are out of range."
+unfoldable pub reachInRange : ℕ → ℕ → Bool
+reachInRange n reach = eqb (reach / 2 ^ n) 0
+
+-- Code 2: "kind, slot, server, item, guarantees, reach or unused word out of range".
+unfoldable pub asked : Size → Step → Op
+asked z x =
+    cond
+    (eqb (x .kind) 1)
+    (cond (ltb (x .a) (z .p) && (ltb (x .b) sums && (eqb (x .c) 0 && eqb (x .d) 0))) (opens (x .a) (x .b)) bad)
+    (cond
+    (eqb (x .kind) 2)
+    (cond (ltb (x .a) (z .p) && (eqb (x .b) 0 && (eqb (x .c) 0 && eqb (x .d) 0))) (closes (x .a)) bad)
+    (cond
+    (eqb (x .kind) 3)
+    (cond (ltb (x .a) (z .p) && (ltb (x .b) items && (reachInRange (z .n) (x .c) && eqb (x .d) 0))) (reads (x .a) (x .b) (x .c)) bad)
+    (cond
+    (eqb (x .kind) 4)
+    (cond (ltb (x .a) (z .p) && (ltb (x .b) items && reachInRange (z .n) (x .d))) (writes (x .a) (x .b) (x .c) (x .d)) bad)
+    (cond
+    (eqb (x .kind) 5)
+    (cond (ltb (x .a) (z .n) && (ltb (x .b) (z .n) && eqb (x .d) 0)) (exchanges (x .a) (x .b) (x .c)) bad)
+    bad))))
+
+-- 01, "Steps": "An answer is five words: code, server, origin, clock, value."
+pub record Answer : Type 0 where
+  pub code : ℕ
+  pub server : ℕ
+  pub origin : ℕ
+  pub clock : ℕ
+  pub value : ℕ
+
+-- "A refused step answers its code and four zeros".
+unfoldable pub refused : ℕ → Answer
+refused code = record { code = code; server = 0; origin = 0; clock = 0; value = 0 }
+
+-- Done, with zeros: what open and close answer.
+unfoldable pub done : Answer
+done = record { code = 0; server = 0; origin = 0; clock = 0; value = 0 }
+
+-- A list of steps as words, and a list of words as steps, five by five; fewer than five at the end are none.
+unfoldable pub stepWords : List Step → List ℕ
+stepWords [] = []
+stepWords (x ∷ xs) = x .kind ∷ x .a ∷ x .b ∷ x .c ∷ x .d ∷ stepWords xs
+
+unfoldable pub stepsOf : List ℕ → List Step
+stepsOf [] = []
+stepsOf (kind ∷ []) = []
+stepsOf (kind ∷ a ∷ []) = []
+stepsOf (kind ∷ a ∷ b ∷ []) = []
+stepsOf (kind ∷ a ∷ b ∷ c ∷ []) = []
+stepsOf (kind ∷ a ∷ b ∷ c ∷ d ∷ ws) = record { kind = kind; a = a; b = b; c = c; d = d } ∷ stepsOf ws
+
+unfoldable pub answerWords : List Answer → List ℕ
+answerWords [] = []
+answerWords (r ∷ rs) = r .code ∷ r .server ∷ r .origin ∷ r .clock ∷ r .value ∷ answerWords rs

@@ -1,0 +1,6 @@
+pub mod Size
+pub mod State
+pub mod Layout
+pub mod Sound
+pub mod Make
+pub mod SoundState

@@ -1,0 +1,5 @@
+pub mod Lists
+pub mod Tests
+pub mod TestLaws
+pub mod ListLaws
+pub mod RowLaws

@@ -4,3 +4,4 @@ pub mod Log
 pub mod Rules
 pub mod Places
 pub mod Ascending
+pub mod LogLaws

@@ -26,25 +26,45 @@ pub data Op : Type 0 where
 unfoldable pub reachInRange : ℕ → ℕ → Bool
 reachInRange n reach = eqb (reach / 2 ^ n) 0
 
--- Code 2: "kind, slot, server, item, guarantees, reach or unused word out of range".
+-- Each kind with its arguments, or code 2: "kind, slot, server, item, guarantees, reach or unused word out of range".
+-- | 1 | open | slot, guarantees |
+unfoldable pub asksOpen : Size → Step → Op
+asksOpen z x = cond (ltb (x .a) (z .p) && (ltb (x .b) sums && (eqb (x .c) 0 && eqb (x .d) 0))) (opens (x .a) (x .b)) bad
+
+-- | 2 | close | slot |
+unfoldable pub asksClose : Size → Step → Op
+asksClose z x = cond (ltb (x .a) (z .p) && (eqb (x .b) 0 && (eqb (x .c) 0 && eqb (x .d) 0))) (closes (x .a)) bad
+
+-- | 3 | read | slot, item, reach |
+unfoldable pub asksRead : Size → Step → Op
+asksRead z x =
+    cond
+    (ltb (x .a) (z .p) && (ltb (x .b) items && (reachInRange (z .n) (x .c) && eqb (x .d) 0)))
+    (reads (x .a) (x .b) (x .c))
+    bad
+
+-- | 4 | write | slot, item, value, reach |
+unfoldable pub asksWrite : Size → Step → Op
+asksWrite z x =
+    cond (ltb (x .a) (z .p) && (ltb (x .b) items && reachInRange (z .n) (x .d))) (writes (x .a) (x .b) (x .c) (x .d)) bad
+
+-- | 5 | exchange | from, to, most |
+unfoldable pub asksExchange : Size → Step → Op
+asksExchange z x = cond (ltb (x .a) (z .n) && (ltb (x .b) (z .n) && eqb (x .d) 0)) (exchanges (x .a) (x .b) (x .c)) bad
+
+-- "The step is told apart by its kind, 1 to 5."
 unfoldable pub asked : Size → Step → Op
 asked z x =
     cond
     (eqb (x .kind) 1)
-    (cond (ltb (x .a) (z .p) && (ltb (x .b) sums && (eqb (x .c) 0 && eqb (x .d) 0))) (opens (x .a) (x .b)) bad)
+    (asksOpen z x)
     (cond
     (eqb (x .kind) 2)
-    (cond (ltb (x .a) (z .p) && (eqb (x .b) 0 && (eqb (x .c) 0 && eqb (x .d) 0))) (closes (x .a)) bad)
+    (asksClose z x)
     (cond
     (eqb (x .kind) 3)
-    (cond (ltb (x .a) (z .p) && (ltb (x .b) items && (reachInRange (z .n) (x .c) && eqb (x .d) 0))) (reads (x .a) (x .b) (x .c)) bad)
-    (cond
-    (eqb (x .kind) 4)
-    (cond (ltb (x .a) (z .p) && (ltb (x .b) items && reachInRange (z .n) (x .d))) (writes (x .a) (x .b) (x .c) (x .d)) bad)
-    (cond
-    (eqb (x .kind) 5)
-    (cond (ltb (x .a) (z .n) && (ltb (x .b) (z .n) && eqb (x .d) 0)) (exchanges (x .a) (x .b) (x .c)) bad)
-    bad))))
+    (asksRead z x)
+    (cond (eqb (x .kind) 4) (asksWrite z x) (cond (eqb (x .kind) 5) (asksExchange z x) bad))))
 
 -- 01, "Steps": "An answer is five words: code, server, origin, clock, value."
 pub record Answer : Type 0 where

@@ -1,0 +1,175 @@
+-- What holds of the search order and of reach. Assumes nothing.
+use Prim.Native.Nat.{ℕ, zero, suc, _+_, _-_, _*_, _/_, _%_, _^_, _<_, _≤_}
+use mathlib.Core.Bool.{Bool, true, false, _&&_}
+use mathlib.Core.List.{List, [], _∷_, _++_}
+use mathlib.Core.Logic.{_⊎_, inl, inr, ⊎-elim}
+use mathlib.Core.Option.{Option, none, some}
+use mathlib.Core.Path.{_≡_, refl, sym, _∙_, ap, ap₂, subst}
+use native.Mathlib.Nat.{pow-suc, pow-succ', div-div-eq-div-mul, div-one, mul-comm}
+use native.Mathlib.Omega.{arith}
+use borrow.Author.Tests.{eqb-true, eqb-false, eq-eqb, ne-eqb}
+use lib.Dec.{eqb}
+use Rattle.words.specs.Lists.{In, here, there, first}
+use Rattle.words.specs.ListLaws.{in-nil, in-cons, in-append-left, in-append-right, Found, first-found, first-none}
+use Rattle.words.specs.TestLaws.{cond-elim, cond-true, cond-false, either, true-not-false, and-left, and-right, and-both, not-true-false}
+use Rattle.tables.specs.State.{Session}
+use Rattle.tables.specs.SoundState.{SoundSession}
+use Rattle.steps.specs.Step.{reachInRange}
+use Rattle.steps.specs.Choice.{reaches, startOf, next, onwards, around, choose}
+
+-- ---- the search order
+
+-- k servers from i up.
+unfoldable pub upFrom : ℕ → ℕ → List ℕ
+upFrom i zero = []
+upFrom i (suc k) = i ∷ upFrom (suc i) k
+
+next-up : (n i : ℕ) → (suc i ≡ n → ⊥) → next n i ≡ suc i
+unfolding next
+next-up n i h = cond-false (eqb (suc i) n) _ _ (ne-eqb (suc i) n h)
+
+next-wraps : (n i : ℕ) → suc i ≡ n → next n i ≡ 0
+unfolding next
+next-wraps n i h = cond-true (eqb (suc i) n) _ _ (eq-eqb (suc i) n h)
+
+-- Up to the last server the search goes up by one.
+onwards-up : (n k i : ℕ) → i + k ≤ n → onwards n k i ≡ upFrom i k
+unfolding onwards upFrom
+onwards-up n zero i h = refl
+onwards-up n (suc zero) i h = refl
+onwards-up n (suc (suc k)) i h =
+    ap {B = List ℕ} (λ l. i ∷ l) (ap (λ m. onwards n (suc k) m) (next-up n i (λ e. omega arith)) ∙ onwards-up n (suc k) (suc i) (omega arith))
+
+-- From the last server it passes to 0.
+onwards-wraps : (n a b i : ℕ) → i + suc a ≡ n → onwards n (suc a + b) i ≡ upFrom i (suc a) ++ onwards n b 0
+unfolding onwards upFrom
+onwards-wraps n zero b i h =
+    let e : suc zero + b ≡ suc b = omega arith in
+    ap (λ k. onwards n k i) e ∙ ap {B = List ℕ} (λ l. i ∷ l) (ap (λ m. onwards n b m) (next-wraps n i (omega arith)))
+onwards-wraps n (suc a) b i h =
+    let e : suc (suc a) + b ≡ suc (suc a + b) = omega arith in
+    ap (λ k. onwards n k i) e
+    ∙ ap {B = List ℕ} (λ l. i ∷ l) (ap (λ m. onwards n (suc a + b) m) (next-up n i (λ q. omega arith)) ∙ onwards-wraps n a b (suc i) (omega arith))
+
+-- 01, "Choice": from the start up to the last server, and then from 0 up to the start.
+pub around-is : (n start : ℕ) → start < n → around n start ≡ upFrom start (n - start) ++ upFrom 0 start
+unfolding around
+around-is n start h =
+    let e : n ≡ suc (n - suc start) + start = omega arith in
+    let f : suc (n - suc start) ≡ n - start = omega arith in
+    ap (λ k. onwards n k start) e
+    ∙ (onwards-wraps n (n - suc start) start start (omega arith)
+    ∙ ap₂ (λ k l. upFrom start k ++ l) f (onwards-up n start 0 (omega arith)))
+
+in-upFrom : (i k j : ℕ) → i ≤ j → j < i + k → In j (upFrom i k)
+unfolding upFrom
+in-upFrom i zero j h l = absurd (omega arith)
+in-upFrom i (suc k) j h l =
+    ⊎-elim
+    (λ e. here (eqb-true j i e))
+    (λ e. there (in-upFrom (suc i) k j (omega (arith, eqb-false j i e)) (omega arith)))
+    (either (eqb j i))
+
+-- Every server is tried.
+pub around-all : (n start : ℕ) → start < n → (i : ℕ) → i < n → In i (around n start)
+around-all n start h i l =
+    subst
+    (λ (s : List ℕ). In i s)
+    (sym (around-is n start h))
+    (⊎-elim
+    (λ (e : Prim.Native.Nat._≤_ start i). in-append-left (upFrom 0 start) (in-upFrom start (n - start) i e (omega arith)))
+    (λ (e : i < start). in-append-right (upFrom start (n - start)) (in-upFrom 0 start i (omega arith) (omega arith)))
+    (order start i))
+  where
+    order : (a b : ℕ) → (a ≤ b) ⊎ (b < a)
+    order a b = ⊎-elim (λ e. inl (borrow.Author.Tests.leb-true a b e)) (λ e. inr (borrow.Author.Tests.leb-false a b e)) (either (lib.Dec.leb a b))
+
+-- Nothing but servers is tried.
+onwards-below : (n k i : ℕ) → i < n → (j : ℕ) → In j (onwards n k i) → j < n
+unfolding onwards next
+onwards-below n zero i h j m = in-nil m
+onwards-below n (suc k) i h j m =
+    ⊎-elim (λ e. omega arith) (λ m′. onwards-below n k (next n i) next-below j m′) (in-cons m)
+  where
+    next-below : next n i < n
+    next-below = cond-elim (λ (c : ℕ). c < n) (eqb (suc i) n) (λ e. omega arith) (λ e. omega (arith, eqb-false (suc i) n e))
+
+pub around-below : (n start : ℕ) → start < n → (j : ℕ) → In j (around n start) → j < n
+unfolding around
+around-below n start h = onwards-below n n start h
+
+pub start-below : {n : ℕ} {own : ℕ → ℕ} {q : Session} → SoundSession n own q → 1 ≤ n → startOf q < n
+unfolding startOf
+start-below c h = omega (arith, c .used)
+
+-- ---- what the search found
+
+-- The server chosen is reachable and passes, and those before it in the search order are not reachable or fail.
+pub record Chosen (n start reach : ℕ) (passes : ℕ → Bool) (i : ℕ) : Type 0 where
+  pub earlier : List ℕ
+  pub untried : List ℕ
+  pub order : around n start ≡ earlier ++ i ∷ untried
+  pub server : i < n
+  pub reachable : reaches reach i ≡ true
+  pub passed : passes i ≡ true
+  pub failed : (j : ℕ) → In j earlier → (reaches reach j && passes j) ≡ false
+
+pub choose-some : (n start reach : ℕ) (passes : ℕ → Bool) (i : ℕ) → start < n → choose n start reach passes ≡ some i → Chosen n start reach passes i
+unfolding choose
+choose-some n start reach passes i h e =
+    let f : Found (λ j. reaches reach j && passes j) (around n start) i = first-found (λ j. reaches reach j && passes j) (around n start) i e in
+    record {
+      earlier = f .front;
+      untried = f .rest;
+      order = f .split;
+      server =
+          around-below n start h i (subst (λ (l : List ℕ). In i l) (sym (f .split)) (in-append-right (f .front) (here refl)));
+      reachable = and-left (reaches reach i) (passes i) (f .passed);
+      passed = and-right (reaches reach i) (passes i) (f .passed);
+      failed = f .failed;
+    }
+
+pub choose-none : (n start reach : ℕ) (passes : ℕ → Bool) → start < n → choose n start reach passes ≡ none
+    → (i : ℕ) → i < n → reaches reach i ≡ true → passes i ≡ false
+unfolding choose
+choose-none n start reach passes h e i l r =
+    not-true-false
+    (passes i)
+    (λ p.
+    true-not-false
+    (and-both (reaches reach i) (passes i) r p)
+    (first-none (λ j. reaches reach j && passes j) (around n start) e i (around-all n start h i l)))
+
+-- ---- reach
+
+-- A reach set that is in range and not 0 has a server in it.
+pub record Reachable (n reach : ℕ) : Type 0 where
+  pub server : ℕ
+  pub below : server < n
+  pub reached : reaches reach server ≡ true
+
+pub reach-some : (n reach : ℕ) → reachInRange n reach ≡ true → (reach ≡ 0 → ⊥) → Reachable n reach
+unfolding reachInRange reaches
+reach-some zero reach e h = absurd (h (sym (div-one reach) ∙ eqb-true (reach / 2 ^ 0) 0 e))
+reach-some (suc n) reach e h =
+    ⊎-elim
+    (λ (o : eqb (reach % 2) 1 ≡ true).
+    record {
+      server = 0;
+      below = omega arith;
+      reached = ap (λ r. eqb (r % 2) 1) (div-one reach) ∙ o;
+    })
+    (λ (o : eqb (reach % 2) 1 ≡ false).
+    let half : (reach / 2) / 2 ^ n ≡ reach / 2 ^ suc n = div-div-eq-div-mul reach 2 (2 ^ n) ∙ ap (λ m. reach / m) (sym (pow-succ' 2 n)) in
+    further (reach-some n (reach / 2) (ap (λ r. eqb r 0) half ∙ e) (λ d. h (omega (arith, eqb-false (reach % 2) 1 o)))))
+    (either (eqb (reach % 2) 1))
+  where
+    further : Reachable n (reach / 2) → Reachable (suc n) reach
+    further f =
+        record {
+          server = suc (f .server);
+          below = omega (arith, f .below);
+          reached =
+              ap (λ r. eqb (r % 2) 1) (ap (λ m. reach / m) (pow-succ' 2 (f .server)) ∙ sym (div-div-eq-div-mul reach 2 (2 ^ f .server)))
+              ∙ f .reached;
+        }

@@ -4,4 +4,8 @@ pub mod Log
 pub mod Rules
 pub mod Places
 pub mod Ascending
+pub mod AscendingLaws
+pub mod Witness
+pub mod OrderedLaws
+pub mod RulesLaws
 pub mod LogLaws

@@ -17,6 +17,8 @@ use Rattle.logs.specs.Write.{Write, before}
 use Rattle.logs.specs.WriteLaws.{SameKey, before-trans, before-total, before-asym, before-irrefl, before-clock-le}
 use Rattle.logs.specs.Log.{insert, insertAll, lastOn, lacking, follow}
 use Rattle.logs.specs.Ascending.{Ascending, ascending-nil, ascending-cons}
+use Rattle.logs.specs.AscendingLaws.{ascending-head, ascending-tail, keep-ascending}
+use Rattle.logs.specs.Witness.{Witness}
 
 -- ---- insertion
 
@@ -116,19 +118,13 @@ insertAll-ascending [] p q new = q
 insertAll-ascending (w ∷ ws) {g} p q new =
     insertAll-ascending
     ws
-    (rest p)
+    (ascending-tail p)
     (insert-ascending w q (λ x h. new w x (here refl) h))
     (λ y x h m k.
     ⊎-elim
-    (λ e. Rattle.logs.specs.WriteLaws.before-not-key w y (head p y h) (sym (k .0 ∙ ap (λ v. v .clock) e), sym (k .1 ∙ ap (λ v. v .origin) e)))
+    (λ e. Rattle.logs.specs.WriteLaws.before-not-key w y (ascending-head p y h) (sym (k .0 ∙ ap (λ v. v .clock) e), sym (k .1 ∙ ap (λ v. v .origin) e)))
     (λ m′. new y x (there h) m′ k)
     (in-insert w g m))
-  where
-    rest : Ascending (w ∷ ws) → Ascending ws
-    rest (ascending-cons h r) = r
-
-    head : Ascending (w ∷ ws) → (x : Write) → In x ws → before w x ≡ true
-    head (ascending-cons h r) = h
 
 -- ---- the first of a log in order
 
@@ -235,31 +231,29 @@ pub lacking-in : {w : Write} (v : ℕ → ℕ) {g : List Write} → In w g → v
 unfolding lacking
 lacking-in {w} v h l = keep-in (λ x. ltb (v (x .origin)) (x .clock)) h (lt-ltb (v (w .origin)) (w .clock) l)
 
+pub lacking-ascending : (v : ℕ → ℕ) {g : List Write} → Ascending g → Ascending (lacking v g)
+unfolding lacking
+lacking-ascending v a = keep-ascending (λ x. ltb (v (x .origin)) (x .clock)) a
+
 -- ---- a vector that follows
 
 -- A component is as it was, or is the clock of a write of that origin that went over.
-pub record Followed (ws : List Write) (j c : ℕ) : Type 0 where
-  pub write : Write
-  pub gone : In write ws
-  pub from : write .origin ≡ j
-  pub timed : write .clock ≡ c
-
-pub follow-either : (ws : List Write) (v : ℕ → ℕ) (j : ℕ) → (follow ws v j ≡ v j) ⊎ Followed ws j (follow ws v j)
+pub follow-either : (ws : List Write) (v : ℕ → ℕ) (j : ℕ) → (follow ws v j ≡ v j) ⊎ Witness ws j (follow ws v j)
 unfolding follow
 follow-either [] v j = inl refl
 follow-either (w ∷ ws) v j =
     ⊎-elim
     (λ e.
     upd-elim
-    (λ c. follow ws (upd v (w .origin) (w .clock)) j ≡ c → (follow ws (upd v (w .origin) (w .clock)) j ≡ v j) ⊎ Followed (w ∷ ws) j (follow ws (upd v (w .origin) (w .clock)) j))
+    (λ c. follow ws (upd v (w .origin) (w .clock)) j ≡ c → (follow ws (upd v (w .origin) (w .clock)) j ≡ v j) ⊎ Witness (w ∷ ws) j (follow ws (upd v (w .origin) (w .clock)) j))
     v
     (w .origin)
     (w .clock)
     j
-    (λ q d. inr (record { write = w; gone = here refl; from = sym q; timed = sym d }))
+    (λ q d. inr (record { write = w; stored = here refl; from = sym q; timed = sym d }))
     (λ q d. inl d)
     e)
-    (λ f. inr (record { write = f .write; gone = there (f .gone); from = f .from; timed = f .timed }))
+    (λ f. inr (record { write = f .write; stored = there (f .stored); from = f .from; timed = f .timed }))
     (follow-either ws (upd v (w .origin) (w .clock)) j)
 
 -- A component of a vector that lies below all that goes over does not fall.
@@ -267,7 +261,7 @@ pub follow-base : (ws : List Write) (v : ℕ → ℕ) → Ascending ws → ((w :
 follow-base ws v a h j =
     ⊎-elim
     (λ e. omega arith)
-    (λ f. omega (arith, f .timed, ap v (f .from), h (f .write) (f .gone)))
+    (λ f. omega (arith, f .timed, ap v (f .from), h (f .write) (f .stored)))
     (follow-either ws v j)
 
 -- A component is at least the clock of each write of its origin that went over in write order.
@@ -279,7 +273,7 @@ follow-above v (ascending-cons {w = y} {ws = ys} head rest) w h =
     (λ q.
     ⊎-elim
     (λ e. omega (arith, e, upd-same v (y .origin) (y .clock) (w .origin) (ap (λ u. u .origin) q), ap (λ u. u .clock) q))
-    (λ f. omega (arith, f .timed, before-clock-le y (f .write) (head (f .write) (f .gone)), ap (λ u. u .clock) q))
+    (λ f. omega (arith, f .timed, before-clock-le y (f .write) (head (f .write) (f .stored)), ap (λ u. u .clock) q))
     (follow-either ys (upd v (y .origin) (y .clock)) (w .origin)))
     (λ m. follow-above (upd v (y .origin) (y .clock)) rest w m)
     (in-cons h)

@@ -3,5 +3,10 @@ pub mod StepLaws
 pub mod Choice
 pub mod ChoiceLaws
 pub mod Rules
+pub mod Effects
+pub mod Grown
+pub mod SoundKept
+pub mod Codes
+pub mod CodeLaws
 pub mod Calls
 pub mod Rows

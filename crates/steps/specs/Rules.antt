@@ -133,14 +133,18 @@ unfoldable pub received : State → ℕ → List Write → State
 received s target ws =
     withVector (withLog s target (insertAll ws (s .log target))) target (follow ws (s .vector target))
 
--- "Answers server = to, origin = from, clock 0, value = k." Code 4: "exchange from a server to itself".
+-- "Answers server = to, origin = from, clock 0, value = k."
+unfoldable pub exchangeAnswer : ℕ → ℕ → ℕ → Answer
+exchangeAnswer source target k = record { code = 0; server = target; origin = source; clock = 0; value = k }
+
+-- Code 4: "exchange from a server to itself".
 unfoldable pub exchanging : Size → State → ℕ → ℕ → ℕ → Outcome
 exchanging z s source target most =
     cond
     (eqb source target)
     (refuse 4 s)
     (record {
-      answer = record { code = 0; server = target; origin = source; clock = 0; value = goingOver z s source target most };
+      answer = exchangeAnswer source target (goingOver z s source target most);
       state = received s target (sent z s source target most);
     })
 

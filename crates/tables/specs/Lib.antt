@@ -4,3 +4,5 @@ pub mod Layout
 pub mod Sound
 pub mod Make
 pub mod SoundState
+pub mod SoundStateLaws
+pub mod Growth

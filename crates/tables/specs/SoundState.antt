@@ -1,13 +1,14 @@
 -- A sound state, by membership: the form of rules b to f in which the theorems use them. `sound-exactly` in SoundLaws.antt says that a
 -- table passes the tests of Sound.antt exactly if it is the words of such a state. Assumes nothing.
 use Prim.Native.Nat.{ℕ, suc, _<_, _≤_}
-use mathlib.Core.List.{List, []}
+use mathlib.Core.List.{[]}
 use mathlib.Core.Logic.{_⊎_}
 use mathlib.Core.Path.{_≡_}
 use lib.ListN.{length}
 use Rattle.words.specs.Lists.{In}
 use Rattle.logs.specs.Write.{Write}
 use Rattle.logs.specs.Ascending.{Ascending}
+use Rattle.logs.specs.Witness.{Witness, Timed}
 use Rattle.tables.specs.Size.{Size, items, sums}
 use Rattle.tables.specs.State.{State, Session, Slot, closed, opened}
 
@@ -21,19 +22,6 @@ pub record SoundSession (n : ℕ) (own : ℕ → ℕ) (q : Session) : Type 0 whe
 abbrev pub SoundSlot : ℕ → (ℕ → ℕ) → Slot → Type 0
 SoundSlot n own closed = Unit {0}
 SoundSlot n own (opened q) = SoundSession n own q
-
--- Origin j has a write with this clock in the log.
-pub record Witness (log : List Write) (j clock : ℕ) : Type 0 where
-  pub write : Write
-  pub stored : In write log
-  pub from : write .origin ≡ j
-  pub timed : write .clock ≡ clock
-
--- A write of the log has this clock.
-pub record Timed (log : List Write) (clock : ℕ) : Type 0 where
-  pub write : Write
-  pub stored : In write log
-  pub timed : write .clock ≡ clock
 
 pub record SoundState (z : Size) (s : State) : Type 0 where
   -- b: as many writes as there are places, at most

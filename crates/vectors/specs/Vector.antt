@@ -2,7 +2,9 @@
 -- function from servers to clocks, of which the first n count. Assumes nothing.
 use Prim.Native.Nat.{ℕ, zero, suc, max}
 use mathlib.Core.Bool.{Bool}
+use mathlib.Core.List.{List}
 use lib.Dec.{leb}
+use lib.ListN.{getD}
 use Rattle.words.specs.Tests.{all}
 
 -- 002, section 5: "check that V2 dominates V1, where dominance is defined as one vector being greater or equal to the other in all
@@ -18,3 +20,7 @@ join v₁ v₂ j = max (v₁ j) (v₂ j)
 unfoldable pub greatest : ℕ → (ℕ → ℕ) → ℕ
 greatest zero v = 0
 greatest (suc n) v = max (greatest n v) (v n)
+
+-- The vector that a slice holds: component j is the word at place j.
+abbrev pub vectorOf : List ℕ → ℕ → ℕ
+vectorOf words j = getD words j 0

@@ -2,4 +2,5 @@ pub mod Lists
 pub mod Tests
 pub mod TestLaws
 pub mod ListLaws
+pub mod CaseLaws
 pub mod RowLaws

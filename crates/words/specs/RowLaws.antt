@@ -8,8 +8,8 @@ use native.Mathlib.Omega.{arith}
 use native.Mathlib.Nat.{suc-mul, zero-mul}
 use borrow.Author.Tests.{eqb-true, eqb-false}
 use lib.Dec.{eqb}
-use lib.ListN.{length, getD, take, drop, length-append, List·getD-append}
-use lib.Seq.{ext-getD, getD-at, drop-append-le, take-append-le, drop-at, take-at, drop-append-add, length-take-le, take-all}
+use lib.ListN.{length, getD, set, take, drop, length-append, List·getD-append, drop-of-length-le}
+use lib.Seq.{ext-getD, getD-at, set-at, drop-cons, append-snoc, drop-append-le, take-append-le, drop-at, take-at, drop-append-add, length-take-le, take-all}
 use Rattle.words.specs.Lists.{row, blocks, part}
 use Rattle.words.specs.TestLaws.{either}
 
@@ -48,6 +48,32 @@ module _ {A : Type 0} where
       xs
       (length-row n (λ k. getD xs k d) ∙ sym e)
       (λ i h. getD-row n (λ k. getD xs k d) i d (omega (arith, length-row n (λ k. getD xs k d))))
+
+-- ---- a list that is filled from the front
+
+-- The list with its first n elements replaced by a function's first n values.
+abbrev pub filled : {A : Type 0} → ℕ → (ℕ → A) → List A → List A
+filled n f xs = row n f ++ drop n xs
+
+pub filled-none : {A : Type 0} (f : ℕ → A) (xs : List A) → filled 0 f xs ≡ xs
+unfolding row
+filled-none f xs = refl
+
+module _ {A : Type 0} (n : ℕ) (f : ℕ → A) (xs : List A) where
+  -- The next element to be replaced is the list's own.
+  pub getD-filled : (d : A) → n < length xs → getD (filled n f xs) n d ≡ getD xs n d
+  getD-filled d h = rw (drop-cons xs n d) (getD-at (row n f) (getD xs n d) (drop (suc n) xs) d n (length-row n f))
+
+  -- One element more.
+  pub filled-more : n < length xs → set (filled n f xs) n (f n) ≡ filled (n + 1) f xs
+  unfolding row
+  filled-more h =
+      rw
+      (add-one, append-snoc, drop-cons xs n (f n))
+      (set-at (row n f) (getD xs n (f n)) (drop (suc n) xs) (f n) n (length-row n f))
+
+  pub filled-all : length xs ≡ n → filled n f xs ≡ row (length xs) f
+  filled-all e = rw (drop-of-length-le xs {i = n} (omega arith), append-nil, e)
 
 -- ---- blocks of one width
 

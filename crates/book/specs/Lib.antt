@@ -1,1 +1,10 @@
 pub mod Book
+pub mod BookLaws
+pub mod NewestLaws
+pub mod LeastLaws
+pub mod Matching
+pub mod MatchingLaws
+pub mod MatchingLawsKept
+pub mod Simulation
+pub mod Session
+pub mod Propagation

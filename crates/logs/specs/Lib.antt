@@ -3,6 +3,7 @@ pub mod WriteLaws
 pub mod Log
 pub mod Rules
 pub mod Places
+pub mod PlacesLaws
 pub mod Ascending
 pub mod AscendingLaws
 pub mod Witness

@@ -1,5 +1,5 @@
 -- The rules give each code exactly on its condition. Assumes nothing.
-use Prim.Native.Nat.{ℕ, _<_, _≤_}
+use Prim.Native.Nat.{ℕ, zero, suc, _<_, _≤_}
 use mathlib.Core.Bool.{Bool, true, false, _&&_}
 use mathlib.Core.Logic.{_⊎_, inl, inr, ⊎-elim, _↔_}
 use mathlib.Core.Option.{Option, none, some}
@@ -10,6 +10,7 @@ use lib.Dec.{eqb}
 use Rattle.words.specs.Lists.{In}
 use Rattle.words.specs.ListLaws.{none-first}
 use Rattle.words.specs.TestLaws.{cond-elim, cond-true, cond-false, not-true-false, true-not-false, and-left, and-right, and-both, either}
+use Rattle.logs.specs.Log.{lastOn}
 use Rattle.tables.specs.Size.{Size}
 use Rattle.tables.specs.State.{Session, Slot, closed, opened, State}
 use Rattle.tables.specs.SoundState.{SoundState}
@@ -17,8 +18,8 @@ use Rattle.steps.specs.Step.{Op, bad, opens, closes, reads, writes, exch
 use Rattle.steps.specs.Choice.{upToDateToRead, upToDateToWrite, reaches, startOf, choose, around}
 use Rattle.steps.specs.ChoiceLaws.{Chosen, choose-some, choose-none, around-below}
 use Rattle.steps.specs.Rules.{Outcome, refuse, opening, closing, readAnswer, readFrom, reading, newWrite, writeAnswer, writeTo, hasRoom, writing, exchangeAnswer, exchanging, obeyed}
-use Rattle.steps.specs.Effects.{starts}
-use Rattle.steps.specs.Codes.{IsOpen, OutOfRange, WrongSlot, ToItself, NoneReachable, BehindBy, Behind, NoRoom, Full, Verdict, says-done, says-range, says-slot, says-itself, says-none, says-behind, says-full}
+use Rattle.steps.specs.Effects.{read-code, starts}
+use Rattle.steps.specs.Codes.{OutOfRange, out-of-range, WrongSlot, opens-open, closes-closed, reads-closed, writes-closed, ToItself, to-itself, NoneReachable, reads-none, writes-none, BehindBy, Behind, reads-behind, writes-behind, NoRoom, Full, writes-full, Given}
 
 -- Nothing found where every reachable server fails.
 choose-fails : (n start reach : ℕ) (passes : ℕ → Bool) → start < n → ((i : ℕ) → i < n → reaches reach i ≡ true → passes i ≡ false)
@@ -38,40 +39,35 @@ choose-fails n start reach passes h none-passes =
 
 module _ (z : Size) (s : State) (some-server : 1 ≤ z .n) (sound : SoundState z s) where
   abbrev Says : Op → Outcome → Type 0
-  Says o r = Verdict z s o (r .answer .code)
+  Says o r = Given z s o (r .answer .code)
 
   -- ---- the code's condition holds
 
   opening-says : (k g : ℕ) (o : Slot) → s .slot k ≡ o → Says (opens k g) (opening s k g o)
   unfolding opening refuse refused done
-  opening-says k g closed e = says-done
-  opening-says k g (opened q) e = says-slot (record { session = q; is = e })
+  opening-says k g closed e = tt
+  opening-says k g (opened q) e = opens-open q e
 
   closing-says : (k : ℕ) (o : Slot) → s .slot k ≡ o → Says (closes k) (closing s k o)
   unfolding closing refuse refused done
-  closing-says k closed e = says-slot e
-  closing-says k (opened q) e = says-done
-
-  read-done : (o : Op) (i : ℕ) (w : Option Rattle.logs.specs.Write.Write) → Verdict z s o (readAnswer i w .code)
-  unfolding readAnswer
-  read-done o i none = says-done
-  read-done o i (some w) = says-done
+  closing-says k closed e = closes-closed e
+  closing-says k (opened q) e = tt
 
   readFrom-says : (k item reach : ℕ) (q : Session) → s .slot k ≡ opened q → (reach ≡ 0 → ⊥) → (found : Option ℕ)
       → (found ≡ none → (i : ℕ) → i < z .n → reaches reach i ≡ true → upToDateToRead (z .n) q (s .vector i) ≡ false)
       → Says (reads k item reach) (readFrom s k item q found)
   unfolding readFrom refuse refused
-  readFrom-says k item reach q e r none stale = says-behind (record { session = q; is = e; some = r; stale = stale refl })
-  readFrom-says k item reach q e r (some i) stale = read-done (reads k item reach) i _
+  readFrom-says k item reach q e r none stale = reads-behind (record { session = q; is = e; reached = r; stale = stale refl })
+  readFrom-says k item reach q e r (some i) stale = subst (Given z s (reads k item reach)) (sym (read-code i (lastOn item (s .log i)))) tt
 
   reading-says : (k item reach : ℕ) (o : Slot) → s .slot k ≡ o → Says (reads k item reach) (reading z s k item reach o)
   unfolding reading refuse refused
-  reading-says k item reach closed e = says-slot e
+  reading-says k item reach closed e = reads-closed e
   reading-says k item reach (opened q) e =
       cond-elim
       (Says (reads k item reach))
       (eqb reach 0)
-      (λ t. says-none (record { session = q; is = e }, eqb-true reach 0 t))
+      (λ t. reads-none q e (eqb-true reach 0 t))
       (λ t.
       readFrom-says
       k
@@ -89,14 +85,14 @@ module _ (z : Size) (s : State) (some-server : 1 ≤ z .n) (sound : SoundState z
       → (roomy ≡ none → (i : ℕ) → i < z .n → reaches reach i ≡ true → (upToDateToWrite (z .n) q (s .vector i) && hasRoom z s i) ≡ false)
       → Says (writes k item value reach) (writeTo z s k item value q found roomy)
   unfolding writeTo writeAnswer refuse refused
-  writeTo-says k item value reach q e r none roomy stale found full = says-behind (record { session = q; is = e; some = r; stale = stale refl })
+  writeTo-says k item value reach q e r none roomy stale found full = writes-behind (record { session = q; is = e; reached = r; stale = stale refl })
   writeTo-says k item value reach q e r (some i) none stale found full =
       let c : Chosen (z .n) (startOf q) reach (λ j. upToDateToWrite (z .n) q (s .vector j)) i = found i refl in
-      says-full
+      writes-full
       (record {
         session = q;
         is = e;
-        some = r;
+        reached = r;
         server = i;
         below = c .server;
         reachable = c .reachable;
@@ -105,17 +101,17 @@ module _ (z : Size) (s : State) (some-server : 1 ≤ z .n) (sound : SoundState z
             λ j l h u.
             not-true-false (hasRoom z s j) (λ m. true-not-false (and-both (upToDateToWrite (z .n) q (s .vector j)) (hasRoom z s j) u m) (full refl j l h));
       })
-  writeTo-says k item value reach q e r (some i) (some j) stale found full = says-done
+  writeTo-says k item value reach q e r (some i) (some j) stale found full = tt
 
   writing-says : (k item value reach : ℕ) (o : Slot) → s .slot k ≡ o → Says (writes k item value reach) (writing z s k item value reach o)
   unfolding writing refuse refused
-  writing-says k item value reach closed e = says-slot e
+  writing-says k item value reach closed e = writes-closed e
   writing-says k item value reach (opened q) e =
       let h = starts z s some-server sound k q e in
       cond-elim
       (Says (writes k item value reach))
       (eqb reach 0)
-      (λ t. says-none (record { session = q; is = e }, eqb-true reach 0 t))
+      (λ t. writes-none q e (eqb-true reach 0 t))
       (λ t.
       writeTo-says
       k
@@ -134,14 +130,124 @@ module _ (z : Size) (s : State) (some-server : 1 ≤ z .n) (sound : SoundState z
   exchanging-says : (source target most : ℕ) → Says (exchanges source target most) (exchanging z s source target most)
   unfolding exchanging exchangeAnswer refuse refused
   exchanging-says source target most =
-      cond-elim (Says (exchanges source target most)) (eqb source target) (λ t. says-itself (eqb-true source target t)) (λ t. says-done)
+      cond-elim (Says (exchanges source target most)) (eqb source target) (λ t. to-itself (eqb-true source target t)) (λ t. tt)
 
-  -- Every step's code is 0 or stands with its condition.
-  pub verdict : (o : Op) → Says o (obeyed z s o)
+  -- Whatever code a step gets, the table of codes gives it.
+  pub code-given : (o : Op) → Says o (obeyed z s o)
   unfolding obeyed refuse refused
-  verdict bad = says-range tt
-  verdict (opens k g) = opening-says k g (s .slot k) refl
-  verdict (closes k) = closing-says k (s .slot k) refl
-  verdict (reads k item reach) = reading-says k item reach (s .slot k) refl
-  verdict (writes k item value reach) = writing-says k item value reach (s .slot k) refl
-  verdict (exchanges source target most) = exchanging-says source target most
+  code-given bad = out-of-range
+  code-given (opens k g) = opening-says k g (s .slot k) refl
+  code-given (closes k) = closing-says k (s .slot k) refl
+  code-given (reads k item reach) = reading-says k item reach (s .slot k) refl
+  code-given (writes k item value reach) = writing-says k item value reach (s .slot k) refl
+  code-given (exchanges source target most) = exchanging-says source target most
+
+  -- ---- the condition gives the code
+
+  -- A read or write goes on with an open slot and a reach that is not 0.
+  read-goes : (k item reach : ℕ) (q : Session) → s .slot k ≡ opened q → (reach ≡ 0 → ⊥)
+    → obeyed z s (reads k item reach)
+      ≡ readFrom s k item q (choose (z .n) (startOf q) reach (λ i. upToDateToRead (z .n) q (s .vector i)))
+  unfolding obeyed reading
+  read-goes k item reach q e r = ap (reading z s k item reach) e ∙ cond-false (eqb reach 0) _ _ (ne-eqb reach 0 r)
+
+  write-goes : (k item value reach : ℕ) (q : Session) → s .slot k ≡ opened q → (reach ≡ 0 → ⊥)
+    → obeyed z s (writes k item value reach)
+      ≡ writeTo
+        z
+        s
+        k
+        item
+        value
+        q
+        (choose (z .n) (startOf q) reach (λ i. upToDateToWrite (z .n) q (s .vector i)))
+        (choose (z .n) (startOf q) reach (λ i. upToDateToWrite (z .n) q (s .vector i) && hasRoom z s i))
+  unfolding obeyed writing
+  write-goes k item value reach q e r = ap (writing z s k item value reach) e ∙ cond-false (eqb reach 0) _ _ (ne-eqb reach 0 r)
+
+  abbrev Code : Op → ℕ → Type 0
+  Code o c = obeyed z s o .answer .code ≡ c
+
+  range-code : {o : Op} → OutOfRange o → Code o 2
+  unfolding obeyed refuse refused
+  range-code out-of-range = refl
+
+  slot-code : {o : Op} → WrongSlot s o → Code o 3
+  unfolding obeyed opening closing reading writing refuse refused
+  slot-code (opens-open {k = k} {g = g} q e) = ap (λ o. opening s k g o .answer .code) e
+  slot-code (closes-closed {k = k} e) = ap (λ o. closing s k o .answer .code) e
+  slot-code (reads-closed {k = k} {item = item} {reach = reach} e) = ap (λ o. reading z s k item reach o .answer .code) e
+  slot-code (writes-closed {k = k} {item = item} {value = value} {reach = reach} e) = ap (λ o. writing z s k item value reach o .answer .code) e
+
+  itself-code : {o : Op} → ToItself o → Code o 4
+  unfolding obeyed exchanging refuse refused
+  itself-code (to-itself {source = source} {target = target} e) =
+      ap (λ r. r .answer .code) (cond-true (eqb source target) (refuse 4 s) _ (eq-eqb source target e))
+
+  none-code : {o : Op} → NoneReachable s o → Code o 5
+  unfolding obeyed reading writing refuse refused
+  none-code (reads-none {k = k} {item = item} {reach = reach} q e r) =
+      ap (λ o. reading z s k item reach o .answer .code) e ∙ ap (λ o. o .answer .code) (cond-true (eqb reach 0) (refuse 5 s) _ (eq-eqb reach 0 r))
+  none-code (writes-none {k = k} {item = item} {value = value} {reach = reach} q e r) =
+      ap (λ o. writing z s k item value reach o .answer .code) e
+        ∙ ap (λ o. o .answer .code) (cond-true (eqb reach 0) (refuse 5 s) _ (eq-eqb reach 0 r))
+
+  behind-code : {o : Op} → Behind z s o → Code o 6
+  unfolding readFrom writeTo refuse refused
+  behind-code (reads-behind {k = k} {item = item} {reach = reach} b) =
+      let q = b .session in
+      ap (λ o. o .answer .code) (read-goes k item reach q (b .is) (b .reached))
+        ∙ ap
+          (λ f. readFrom s k item q f .answer .code)
+          (choose-fails (z .n) (startOf q) reach (λ i. upToDateToRead (z .n) q (s .vector i)) (starts z s some-server sound k q (b .is)) (b .stale))
+  behind-code (writes-behind {k = k} {item = item} {value = value} {reach = reach} b) =
+      let q = b .session in
+      ap (λ o. o .answer .code) (write-goes k item value reach q (b .is) (b .reached))
+        ∙ ap
+          (λ f. writeTo z s k item value q f (choose (z .n) (startOf q) reach (λ i. upToDateToWrite (z .n) q (s .vector i) && hasRoom z s i)) .answer .code)
+          (choose-fails (z .n) (startOf q) reach (λ i. upToDateToWrite (z .n) q (s .vector i)) (starts z s some-server sound k q (b .is)) (b .stale))
+
+  -- Up to date somewhere and with room nowhere: 7.
+  found : (k item value : ℕ) (q : Session) (f : Option ℕ) → (f ≡ none → ⊥) → writeTo z s k item value q f none .answer .code ≡ 7
+  unfolding writeTo refuse refused
+  found k item value q none h = absurd (h refl)
+  found k item value q (some i) h = refl
+
+  full-code : {o : Op} → Full z s o → Code o 7
+  full-code (writes-full {k = k} {item = item} {value = value} {reach = reach} b) =
+      let q = b .session in
+      let h = starts z s some-server sound k q (b .is) in
+      ap (λ o. o .answer .code) (write-goes k item value reach q (b .is) (b .reached))
+        ∙ (ap
+          (λ f. writeTo z s k item value q (choose (z .n) (startOf q) reach (λ i. upToDateToWrite (z .n) q (s .vector i))) f .answer .code)
+          (choose-fails
+            (z .n)
+            (startOf q)
+            reach
+            (λ i. upToDateToWrite (z .n) q (s .vector i) && hasRoom z s i)
+            h
+            (λ i l r.
+              not-true-false
+                (upToDateToWrite (z .n) q (s .vector i) && hasRoom z s i)
+                (λ t.
+                  true-not-false
+                    (and-right (upToDateToWrite (z .n) q (s .vector i)) (hasRoom z s i) t)
+                    (b .full i l r (and-left (upToDateToWrite (z .n) q (s .vector i)) (hasRoom z s i) t)))))
+          ∙ found k item value q _ (λ e. true-not-false (b .upToDate) (choose-none (z .n) (startOf q) reach (λ i. upToDateToWrite (z .n) q (s .vector i)) h e (b .server) (b .below) (b .reachable))))
+
+  -- ---- both
+
+  -- Code c, 2 or more, is given exactly if the table of codes gives it.
+  pub code-exactly : (o : Op) (c : ℕ) → 2 ≤ c → Code o c ↔ Given z s o c
+  code-exactly o c h = (λ e. subst (Given z s o) e (code-given o), back c h)
+    where
+      back : (c : ℕ) → 2 ≤ c → Given z s o c → Code o c
+      back zero h g = absurd (omega arith)
+      back (suc zero) h g = absurd g
+      back (suc (suc zero)) h g = range-code g
+      back (suc (suc (suc zero))) h g = slot-code g
+      back (suc (suc (suc (suc zero)))) h g = itself-code g
+      back (suc (suc (suc (suc (suc zero))))) h g = none-code g
+      back (suc (suc (suc (suc (suc (suc zero)))))) h g = behind-code g
+      back (suc (suc (suc (suc (suc (suc (suc zero))))))) h g = full-code g
+      back (suc (suc (suc (suc (suc (suc (suc (suc more)))))))) h g = absurd g

@@ -42,6 +42,12 @@ pub data Effect (z : Size) (s : State) : Op → Answer → State → Type 0 wher
       (exchangeAnswer source target (goingOver z s source target most))
       (received s target (sent z s source target most))
 
+-- What a read finds, or that it finds nothing, is an answer.
+pub read-code : (i : ℕ) (found : Option Write) → readAnswer i found .code ≡ 0
+unfolding readAnswer
+read-code i none = refl
+read-code i (some w) = refl
+
 module _ (z : Size) (s : State) (some-server : 1 ≤ z .n) (sound : SoundState z s) where
   abbrev Done : Op → Outcome → Type 0
   Done o r = Effect z s o (r .answer) (r .state)

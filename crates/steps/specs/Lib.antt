@@ -9,4 +9,8 @@ pub mod SoundKept
 pub mod Codes
 pub mod CodeLaws
 pub mod Calls
+pub mod CallLaws
+pub mod Done
+pub mod DoneLaws
+pub mod Exact
 pub mod Rows

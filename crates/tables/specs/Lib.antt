@@ -4,5 +4,11 @@ pub mod Layout
 pub mod Sound
 pub mod Make
 pub mod SoundState
+pub mod SlotLaws
 pub mod SoundStateLaws
+pub mod LayoutLaws
+pub mod DecodeLaws
+pub mod MakeLaws
+pub mod Meaning
+pub mod MeaningLaws
 pub mod Growth

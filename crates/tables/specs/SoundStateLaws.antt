@@ -27,6 +27,7 @@ use Rattle.tables.specs.Size.{Size, items, sums}
 use Rattle.tables.specs.State.{State, Session, Slot, closed, opened}
 use Rattle.tables.specs.Layout.{slotPart, slotWords, sessionOf, slotOf}
 use Rattle.tables.specs.Sound.{ruleC, ruleD, ruleE, ruleF, slotSound}
+use Rattle.tables.specs.SlotLaws.{slot-readVector, slot-writeVector}
 use Rattle.tables.specs.SoundState.{SoundState, SoundSlot, SoundSession}
 
 -- ---- from the tests to a sound state
@@ -161,33 +162,12 @@ module _ {z : Size} {s : State} (h : SoundState z s) where
       absurd (⊎-elim (λ p. omega arith) (λ p. omega (arith, t .from, h .origins i (t .write) (t .stored))) past))
       (h .attained i j)
 
-  -- A session's vectors are 0 there too.
-  pub session-outside : (k : ℕ) (q : Session) → s .slot k ≡ opened q → (j : ℕ) → z .n ≤ j → (q .readVector j ≡ 0) × (q .writeVector j ≡ 0)
-  session-outside k q e j l =
-      let f : SoundSession (z .n) (λ i. s .vector i i) q = subst (SoundSlot (z .n) (λ i. s .vector i i)) e (h .slots k) in
-      (omega (arith, f .readBelow j, vector-outside j j (inl l)), omega (arith, f .writeBelow j, vector-outside j j (inl l)))
-
 -- ---- f: one slot
 
 -- A function cut off at n has the bounds that it has below n.
 pub below-bounded : (n : ℕ) (f own : ℕ → ℕ) → ((j : ℕ) → j < n → f j ≤ own j) → (j : ℕ) → below n f 0 j ≤ own j
 below-bounded n f own h j =
     ⊎-elim (λ l. omega (arith, below-in n f 0 j l, h j l)) (λ l. omega (arith, below-past n f 0 j l)) (lt-or-le j n)
-
--- Where an open slot's words have its read-vector.
-pub read-at : (n : ℕ) (q : Session) (j : ℕ) → j < n → getD (slotWords n (opened q)) (2 + j) 0 ≡ q .readVector j
-unfolding slotWords
-read-at n q j l =
-    let e : 2 + j ≡ suc (suc j) = omega arith in
-    let m : j < length (row n (q .readVector)) = omega (arith, length-row n (q .readVector)) in
-    ap (λ k. getD (slotWords n (opened q)) k 0) e ∙ (List·getD-append (row n (q .readVector)) _ 0 j m ∙ getD-row n (q .readVector) j 0 l)
-
--- And its write-vector.
-pub write-at : (n : ℕ) (q : Session) (j : ℕ) → j < n → getD (slotWords n (opened q)) (2 + n + j) 0 ≡ q .writeVector j
-unfolding slotWords
-write-at n q j l =
-    let e : 2 + n + j ≡ suc (suc (length (row n (q .readVector)) + j)) = omega (arith, length-row n (q .readVector)) in
-    ap (λ k. getD (slotWords n (opened q)) k 0) e ∙ (getD-append-add (row n (q .readVector)) _ j 0 ∙ getD-row n (q .writeVector) j 0 l)
 
 module _ (n : ℕ) (own : ℕ → ℕ) where
   -- A sound slot that is closed is all zero.
@@ -237,8 +217,8 @@ module _ (n : ℕ) (own : ℕ → ℕ) where
       (and-both
       _
       _
-      (all-make n _ (λ j l. le-leb _ (own j) (omega (arith, read-at n q j l, h .readBelow j))))
-      (all-make n _ (λ j l. le-leb _ (own j) (omega (arith, write-at n q j l, h .writeBelow j))))))
+      (all-make n _ (λ j l. le-leb _ (own j) (omega (arith, slot-readVector n q j l, h .readBelow j))))
+      (all-make n _ (λ j l. le-leb _ (own j) (omega (arith, slot-writeVector n q j l, h .writeBelow j))))))
 
 -- Every slot of words that pass f is sound.
 pub rules-slots : (z : Size) (s : State) (t : List ℕ) → ruleF z s t ≡ true → (k : ℕ) → k < z .p → SoundSlot (z .n) (λ j. s .vector j j) (slotOf (z .n) (getD (slotPart z t k) 0 0) (slotPart z t k))

@@ -4,3 +4,5 @@ pub mod TestLaws
 pub mod ListLaws
 pub mod CaseLaws
 pub mod RowLaws
+pub mod PartLaws
+pub mod BlockLaws

@@ -4,13 +4,13 @@ use mathlib.Core.Bool.{Bool, true, false, cond}
 use mathlib.Core.List.{List, [], _∷_, _++_}
 use mathlib.Core.Logic.{_⊎_, inl, inr, ⊎-elim}
 use mathlib.Core.Option.{Option, none, some}
-use mathlib.Core.Path.{_≡_, refl, sym, _∙_, ap, subst}
+use mathlib.Core.Path.{_≡_, refl, sym, _∙_, ap, subst, fun-ext}
 use native.Mathlib.Omega.{arith}
-use borrow.Author.Tests.{eqb-true, eq-eqb, ne-eqb, lt-ltb, le-ltb}
+use borrow.Author.Tests.{eqb-true, eq-eqb, ne-eqb, lt-ltb, le-ltb, ltb-true, ltb-false}
 use lib.Dec.{eqb, ltb}
 use lib.ListN.{length, take, drop}
 use Rattle.words.specs.Lists.{In, here, there, keep, first, upd, below}
-use Rattle.words.specs.TestLaws.{true-not-false, cond-elim, cond-true, cond-false}
+use Rattle.words.specs.TestLaws.{either, true-not-false, cond-elim, cond-true, cond-false}
 
 -- ---- membership
 
@@ -162,3 +162,12 @@ below-in n f past k h = cond-true (ltb k n) _ _ (lt-ltb k n h)
 pub below-past : {A : Type 0} (n : ℕ) (f : ℕ → A) (past : A) (k : ℕ) → n ≤ k → below n f past k ≡ past
 unfolding below
 below-past n f past k h = cond-false (ltb k n) _ _ (le-ltb k n h)
+
+-- A function is the same as one below n, and one value from n on.
+pub below-same : {A : Type 0} (n : ℕ) (f g : ℕ → A) (past : A) → ((k : ℕ) → k < n → f k ≡ g k) → ((k : ℕ) → n ≤ k → g k ≡ past) → below n f past ≡ g
+below-same n f g past inside outside =
+    fun-ext (λ k.
+    ⊎-elim
+    (λ (e : ltb k n ≡ true). below-in n f past k (ltb-true k n e) ∙ inside k (ltb-true k n e))
+    (λ (e : ltb k n ≡ false). below-past n f past k (ltb-false k n e) ∙ sym (outside k (ltb-false k n e)))
+    (either (ltb k n)))

@@ -42,6 +42,10 @@ row (suc n) f = row n f ++ (f n ∷ [])
 unfoldable pub part : {A : Type 0} → List A → ℕ → ℕ → List A
 part xs a k = take k (drop a xs)
 
+-- The list with the k elements from place a on replaced.
+unfoldable pub splice : {A : Type 0} → ℕ → ℕ → List A → List A → List A
+splice a k xs ys = take a xs ++ (ys ++ drop k (drop a xs))
+
 -- The function with the value at one number replaced.
 unfoldable pub upd : {A : Type 0} → (ℕ → A) → ℕ → A → ℕ → A
 upd f i a k = cond (eqb k i) a (f k)

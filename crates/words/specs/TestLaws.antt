@@ -109,3 +109,7 @@ pub replicate-zeros : (n : ℕ) → zeros (replicate n 0) ≡ true
 unfolding zeros
 replicate-zeros zero = refl
 replicate-zeros (suc n) = replicate-zeros n
+
+-- n words that are all zero.
+pub zeros-are : (n : ℕ) (ws : List ℕ) → length ws ≡ n → zeros ws ≡ true → replicate n 0 ≡ ws
+zeros-are n ws e h = ap (λ (k : ℕ). replicate k 0) (sym e) ∙ sym (zeros-replicate ws h)

@@ -1,0 +1,145 @@
+-- What holds of a step on words and of steps one after another, for any table. Assumes nothing.
+use Prim.Native.Nat.{ℕ, suc, _≤_}
+use mathlib.Core.Bool.{Bool, true, false, _&&_}
+use mathlib.Core.List.{List, [], _∷_, _++_}
+use mathlib.Core.Logic.{_⊎_, inl, inr, ⊎-elim}
+use mathlib.Core.Path.{_≡_, refl, sym, _∙_, ap, ap₂, subst}
+use native.Mathlib.Omega.{arith}
+use borrow.Author.Tests.{leb-true}
+use lib.Dec.{leb}
+use Rattle.words.specs.Lists.{In}
+use Rattle.words.specs.ListLaws.{in-nil, in-cons}
+use Rattle.words.specs.TestLaws.{cond-true, cond-false, either, and-left}
+use Rattle.logs.specs.Log.{lastOn}
+use Rattle.tables.specs.Size.{Size, within, mostServers}
+use Rattle.tables.specs.State.{State}
+use Rattle.tables.specs.Layout.{sizeOf, encode, decode}
+use Rattle.tables.specs.Make.{fresh}
+use Rattle.tables.specs.Sound.{sound}
+use Rattle.tables.specs.SoundState.{SoundState}
+use Rattle.tables.specs.Meaning.{Means}
+use Rattle.tables.specs.MeaningLaws.{sound-means, means-sound, means-size, means-state, fresh-sound}
+use Rattle.steps.specs.Step.{Step, Op, asked, Answer, refused, done}
+use Rattle.steps.specs.StepLaws.{asked-inRange}
+use Rattle.steps.specs.Rules.{Outcome, readAnswer, writeAnswer, exchangeAnswer, obeyed, rule}
+use Rattle.steps.specs.Effects.{read-code, Effect, was-refused, was-opened, was-closed, was-read, was-written, was-exchanged, effect}
+use Rattle.steps.specs.SoundKept.{effect-sound}
+use Rattle.steps.specs.Calls.{Stepped, written, step, Walked, onward, walk}
+
+pub within-server : (z : Size) → within z ≡ true → 1 ≤ z .n
+unfolding within
+within-server z h = leb-true 1 (z .n) (and-left (leb 1 (z .n)) (leb (z .n) mostServers) (and-left (leb 1 (z .n) && leb (z .n) mostServers) _ h))
+
+-- ---- one step
+
+-- An unsound table is refused with 1 and left as it is.
+pub step-unsound : (t : List ℕ) (x : Step) → sound t ≡ false → step t x ≡ record { answer = refused 1; table = t }
+unfolding step
+step-unsound t x h = cond-false (sound t) _ _ h
+
+module _ {z : Size} {s : State} {t : List ℕ} (means : Means z s t) (x : Step) where
+  -- A step on a table that means a state is the rules' step on that state.
+  pub step-means : step t x ≡ written z (rule z s x)
+  unfolding step
+  step-means =
+      cond-true (sound t) _ _ (means-sound means) ∙ ap₂ (λ y u. written y (rule y u x)) (means-size means) (means-state means)
+
+  pub step-effect : Effect z s (asked z x) (rule z s x .answer) (rule z s x .state)
+  unfolding rule
+  step-effect = effect z s (within-server z (means .limits)) (means .state) (asked z x)
+
+  pub step-answer : step t x .answer ≡ rule z s x .answer
+  unfolding written
+  step-answer = ap (λ o. o .answer) step-means
+
+  -- The table then means the state that the rules give.
+  pub means-next : Means z (rule z s x .state) (step t x .table)
+  unfolding written
+  means-next =
+      record {
+        limits = means .limits;
+        state = effect-sound (means .state) (asked-inRange z x) step-effect;
+        words = ap (λ o. o .table) step-means
+      }
+
+-- Each step keeps a sound table sound.
+pub step-sound : (t : List ℕ) (x : Step) → sound t ≡ true → sound (step t x .table) ≡ true
+step-sound t x h = means-sound (means-next (sound-means t h) x)
+
+-- ---- refusals
+
+-- A step was accepted; or it answers a code of 2 or more and four zeros, and leaves the state.
+pub data Ended (r : Answer) (was now : State) : Type 0 where
+  accepted : r .code ≡ 0 → Ended r was now
+  rejected : (code : ℕ) → 2 ≤ code → r ≡ refused code → now ≡ was → Ended r was now
+
+pub effect-ended : {z : Size} {s : State} {o : Op} {r : Answer} {after : State} → Effect z s o r after → Ended r s after
+unfolding done writeAnswer exchangeAnswer
+effect-ended (was-refused code h) = rejected code h refl refl
+effect-ended (was-opened e) = accepted refl
+effect-ended (was-closed q e) = accepted refl
+effect-ended {s = s} (was-read {item = item} q i e c) = accepted (read-code i (lastOn item (s .log i)))
+effect-ended (was-written q i e c) = accepted refl
+effect-ended (was-exchanged e) = accepted refl
+
+step-ended : (t : List ℕ) (x : Step) → sound t ≡ true → Ended (step t x .answer) (decode (sizeOf t) t) (rule (sizeOf t) (decode (sizeOf t) t) x .state)
+step-ended t x h =
+    let means : Means (sizeOf t) (decode (sizeOf t) t) t = sound-means t h in
+    subst
+      (λ (r : Answer). Ended r (decode (sizeOf t) t) (rule (sizeOf t) (decode (sizeOf t) t) x .state))
+      (sym (step-answer means x))
+      (effect-ended (step-effect means x))
+
+-- A refused step, of any code and on any table, answers its code and four zeros and leaves every word.
+pub step-refused : (t : List ℕ) (x : Step) → (step t x .answer .code ≡ 0 → ⊥) → (step t x .answer ≡ refused (step t x .answer .code)) × (step t x .table ≡ t)
+unfolding refused
+step-refused t x not-done =
+    ⊎-elim (λ h. go h (step-ended t x h)) (λ h. let e : step t x ≡ record { answer = refused 1; table = t } = step-unsound t x h in (ap (λ o. o .answer) e ∙ ap (λ o. refused (o .answer .code)) (sym e), ap (λ o. o .table) e)) (either (sound t))
+  where
+    go : sound t ≡ true → Ended (step t x .answer) (decode (sizeOf t) t) (rule (sizeOf t) (decode (sizeOf t) t) x .state)
+      → (step t x .answer ≡ refused (step t x .answer .code)) × (step t x .table ≡ t)
+    go h (accepted e) = absurd (not-done e)
+    go h (rejected code l e same) =
+        (e ∙ ap refused (ap (λ r. r .code) (sym e)),
+        means-next (sound-means t h) x .words ∙ (ap (encode (sizeOf t)) same ∙ sym (sound-means t h .words)))
+
+-- ---- steps one after another
+
+pub walk-sound : (t : List ℕ) (xs : List Step) → sound t ≡ true → sound (walk t xs .table) ≡ true
+unfolding walk onward
+walk-sound t [] h = h
+walk-sound t (x ∷ xs) h = walk-sound (step t x .table) xs (step-sound t x h)
+
+-- Over a sound table no step answers 1.
+pub step-not-1 : (t : List ℕ) (x : Step) → sound t ≡ true → step t x .answer .code ≡ 1 → ⊥
+unfolding refused
+step-not-1 t x h e = go (step-ended t x h)
+  where
+    go : Ended (step t x .answer) (decode (sizeOf t) t) (rule (sizeOf t) (decode (sizeOf t) t) x .state) → ⊥
+    go (accepted d) = omega arith
+    go (rejected code l d same) = omega (arith, ap (λ r. r .code) d)
+
+pub walk-not-1 : (t : List ℕ) (xs : List Step) → sound t ≡ true → (r : Answer) → In r (walk t xs .answers) → r .code ≡ 1 → ⊥
+unfolding walk onward
+walk-not-1 t [] h r m e = in-nil m
+walk-not-1 t (x ∷ xs) h r m e =
+    ⊎-elim
+      (λ q. step-not-1 t x h (ap (λ a. a .code) (sym q) ∙ e))
+      (λ m′. walk-not-1 (step t x .table) xs (step-sound t x h) r m′ e)
+      (in-cons m)
+
+-- No step of a schedule from a fresh table answers 1, and the table stays sound.
+pub schedule-sound : (z : Size) → within z ≡ true → (xs : List Step) → sound (walk (fresh z) xs .table) ≡ true
+schedule-sound z limits xs = walk-sound (fresh z) xs (fresh-sound z limits)
+
+pub schedule-not-1 : (z : Size) → within z ≡ true → (xs : List Step) (r : Answer) → In r (walk (fresh z) xs .answers) → r .code ≡ 1 → ⊥
+schedule-not-1 z limits xs = walk-not-1 (fresh z) xs (fresh-sound z limits)
+
+-- Over an unsound table every step answers 1, and the table stays.
+pub walk-unsound : (t : List ℕ) (xs : List Step) → sound t ≡ false → (walk t xs .table ≡ t) × ((r : Answer) → In r (walk t xs .answers) → r ≡ refused 1)
+unfolding walk onward
+walk-unsound t [] h = (refl, λ r m. in-nil m)
+walk-unsound t (x ∷ xs) h =
+    let e : step t x ≡ record { answer = refused 1; table = t } = step-unsound t x h in
+    let later = walk-unsound (step t x .table) xs (ap (λ o. sound (o .table)) e ∙ h) in
+    (later .0 ∙ ap (λ o. o .table) e, λ r m. ⊎-elim (λ q. q ∙ ap (λ o. o .answer) e) (λ m′. later .1 r m′) (in-cons m))

@@ -1,0 +1,101 @@
+-- Demand 2, of the step on words that the delivered calls promise. Assumes nothing.
+use Prim.Native.Nat.{ℕ, _<_, _≤_, _/_, _%_, _^_}
+use mathlib.Core.Bool.{Bool, true, false}
+use mathlib.Core.List.{List}
+use mathlib.Core.Logic.{_⊎_, inl, inr, ⊎-elim, _↔_}
+use mathlib.Core.Path.{_≡_, refl, sym, _∙_, ap, subst}
+use native.Mathlib.Omega.{arith}
+use native.Mathlib.Nat.{zero-div}
+use borrow.Author.Tests.{eqb-true}
+use lib.Dec.{eqb}
+use Rattle.words.specs.TestLaws.{either, true-not-false, not-true-false}
+use Rattle.logs.specs.Rules.{greatestOf}
+use Rattle.tables.specs.Size.{Size}
+use Rattle.tables.specs.State.{Session, opened, State}
+use Rattle.tables.specs.Layout.{sizeOf, decode}
+use Rattle.tables.specs.Sound.{sound}
+use Rattle.tables.specs.Meaning.{Means}
+use Rattle.tables.specs.MeaningLaws.{sound-means, means-size, means-state}
+use Rattle.steps.specs.Step.{Step, Op, reads, writes, exchanges, reachInRange, asked, Answer, refused}
+use Rattle.steps.specs.StepLaws.{InRange, asked-inRange}
+use Rattle.steps.specs.Choice.{reaches, upToDateToRead, upToDateToWrite}
+use Rattle.steps.specs.ChoiceLaws.{Reachable, reach-some}
+use Rattle.steps.specs.Rules.{rule}
+use Rattle.steps.specs.Effects.{Effect}
+use Rattle.steps.specs.Codes.{Given, NoneReachable, BehindBy, Behind, reads-behind, writes-behind, Full}
+use Rattle.steps.specs.CodeLaws.{code-exactly}
+use Rattle.steps.specs.Done.{ReadDone, WriteDone, ExchangeDone}
+use Rattle.steps.specs.DoneLaws.{read-done, write-done, exchange-done}
+use Rattle.steps.specs.Calls.{step}
+use Rattle.steps.specs.CallLaws.{within-server, step-unsound, step-answer, step-effect, means-next, step-not-1}
+
+-- ---- the codes
+
+-- 1: "table isn't sound".
+pub unsound-exactly : (t : List ℕ) (x : Step) → (step t x .answer .code ≡ 1) ↔ (sound t ≡ false)
+unfolding refused
+unsound-exactly t x = (λ e. not-true-false (sound t) (λ h. step-not-1 t x h e), λ h. ap (λ o. o .answer .code) (step-unsound t x h))
+
+-- 2 to 7: each is given exactly if the table is sound and the code's condition holds of its state.
+pub given-exactly : (t : List ℕ) (x : Step) (c : ℕ) → 2 ≤ c
+    → (step t x .answer .code ≡ c) ↔ ((sound t ≡ true) × Given (sizeOf t) (decode (sizeOf t) t) (asked (sizeOf t) x) c)
+unfolding refused rule
+given-exactly t x c l =
+    (λ e.
+      ⊎-elim
+        (λ h. (h, of t x h c l .0 (ap (λ r. r .code) (sym (step-answer (sound-means t h) x)) ∙ e)))
+        (λ h. absurd (omega (arith, ap (λ o. o .answer .code) (step-unsound t x h))))
+        (either (sound t)),
+    λ g. ap (λ r. r .code) (step-answer (sound-means t (g .0)) x) ∙ of t x (g .0) c l .1 (g .1))
+  where
+    of : (t : List ℕ) (x : Step) → sound t ≡ true → (c : ℕ) → 2 ≤ c
+      → (rule (sizeOf t) (decode (sizeOf t) t) x .answer .code ≡ c) ↔ Given (sizeOf t) (decode (sizeOf t) t) (asked (sizeOf t) x) c
+    of t x h c l =
+        let means : Means (sizeOf t) (decode (sizeOf t) t) t = sound-means t h in
+        code-exactly (sizeOf t) (decode (sizeOf t) t) (within-server (sizeOf t) (means .limits)) (means .state) (asked (sizeOf t) x) c l
+
+-- 5: "reach is 0", 6: "behind", 7: "full".
+pub none-reachable-exactly : (t : List ℕ) (x : Step)
+    → (step t x .answer .code ≡ 5) ↔ ((sound t ≡ true) × NoneReachable (decode (sizeOf t) t) (asked (sizeOf t) x))
+none-reachable-exactly t x = given-exactly t x 5 (omega arith)
+
+pub behind-exactly : (t : List ℕ) (x : Step)
+    → (step t x .answer .code ≡ 6) ↔ ((sound t ≡ true) × Behind (sizeOf t) (decode (sizeOf t) t) (asked (sizeOf t) x))
+behind-exactly t x = given-exactly t x 6 (omega arith)
+
+pub full-exactly : (t : List ℕ) (x : Step)
+    → (step t x .answer .code ≡ 7) ↔ ((sound t ≡ true) × Full (sizeOf t) (decode (sizeOf t) t) (asked (sizeOf t) x))
+full-exactly t x = given-exactly t x 7 (omega arith)
+
+-- ---- what accepted steps do
+
+module _ (t : List ℕ) (x : Step) (is-sound : sound t ≡ true) (done : step t x .answer .code ≡ 0) where
+  abbrev z : Size
+  z = sizeOf t
+
+  abbrev s : State
+  s = decode (sizeOf t) t
+
+  -- The state that the table then means.
+  abbrev after : State
+  after = decode (sizeOf (step t x .table)) (step t x .table)
+
+  happened : (o : Op) → asked z x ≡ o → Effect z s o (step t x .answer) after
+  happened o e =
+      let means : Means z s t = sound-means t is-sound in
+      mathlib.Core.Path.subst₂
+        (λ (r : Answer) (u : State). Effect z s o r u)
+        (sym (step-answer means x))
+        (sym (means-state (means-next means x)))
+        (subst (λ (p : Op). Effect z s p (rule z s x .answer) (rule z s x .state)) e (step-effect means x))
+
+  pub read-exactly : (k item reach : ℕ) → asked z x ≡ reads k item reach → ReadDone z s k item reach (step t x .answer) after
+  read-exactly k item reach e = read-done (happened (reads k item reach) e) done
+
+  pub write-exactly : (k item value reach : ℕ) → asked z x ≡ writes k item value reach
+    → WriteDone z s k item value reach (step t x .answer) after
+  write-exactly k item value reach e = write-done (sound-means t is-sound .state) (happened (writes k item value reach) e) done
+
+  pub exchange-exactly : (source target most : ℕ) → asked z x ≡ exchanges source target most
+    → ExchangeDone z s source target most (step t x .answer) after
+  exchange-exactly source target most e = exchange-done (sound-means t is-sound .state) (happened (exchanges source target most) e) done

@@ -8,3 +8,8 @@ pub mod MatchingLawsKept
 pub mod Simulation
 pub mod Session
 pub mod Propagation
+pub mod Guarantee
+pub mod Moments
+pub mod Accepted
+pub mod Remembering
+pub mod Guarantees

@@ -186,13 +186,13 @@ module _ (z : Size) (s : State) (b : Book) (sound : SoundState z s) (m : Matchin
 -- ---- any step
 
 -- A book that matches a sound state answers every step alike and still matches after it.
-pub book-step : (z : Size) → 1 ≤ z .n → (s : State) (b : Book) → SoundState z s → Matching s b → (o : Op) → InRange z o
+pub book-step : (z : Size) (s : State) (b : Book) → SoundState z s → Matching s b → (o : Op)
     → (obeyed z s o .answer ≡ bookStep z b o .answer) × Matching (obeyed z s o .state) (bookStep z b o .book)
 unfolding obeyed bookStep
-book-step z some-server s b sound m bad h = refuse-alike z s b sound m 2
-book-step z some-server s b sound m (opens k g) h = open-alike z s b sound m k g (s .slot k) (b .slot k) (m .slots k)
-book-step z some-server s b sound m (closes k) h = close-alike z s b sound m k (s .slot k) (b .slot k) (m .slots k)
-book-step z some-server s b sound m (reads k item reach) h = read-alike z s b sound m k item reach (s .slot k) (b .slot k) (m .slots k)
-book-step z some-server s b sound m (writes k item value reach) h =
+book-step z s b sound m bad = refuse-alike z s b sound m 2
+book-step z s b sound m (opens k g) = open-alike z s b sound m k g (s .slot k) (b .slot k) (m .slots k)
+book-step z s b sound m (closes k) = close-alike z s b sound m k (s .slot k) (b .slot k) (m .slots k)
+book-step z s b sound m (reads k item reach) = read-alike z s b sound m k item reach (s .slot k) (b .slot k) (m .slots k)
+book-step z s b sound m (writes k item value reach) =
     write-alike z s b sound m k item value reach (s .slot k) (b .slot k) (m .slots k)
-book-step z some-server s b sound m (exchanges source target most) h = exchange-alike z s b sound m source target most
+book-step z s b sound m (exchanges source target most) = exchange-alike z s b sound m source target most

@@ -26,45 +26,46 @@ pub data Op : Type 0 where
 unfoldable pub reachInRange : ℕ → ℕ → Bool
 reachInRange n reach = eqb (reach / 2 ^ n) 0
 
--- Each kind with its arguments, or code 2: "kind, slot, server, item, guarantees, reach or unused word out of range".
+-- Code 2, kind by kind: "slot, server, item, guarantees, reach or unused word out of range".
 -- | 1 | open | slot, guarantees |
-unfoldable pub asksOpen : Size → Step → Op
-asksOpen z x = cond (ltb (x .a) (z .p) && (ltb (x .b) sums && (eqb (x .c) 0 && eqb (x .d) 0))) (opens (x .a) (x .b)) bad
+unfoldable pub openInRange : Size → Step → Bool
+openInRange z x = ltb (x .a) (z .p) && (ltb (x .b) sums && (eqb (x .c) 0 && eqb (x .d) 0))
 
 -- | 2 | close | slot |
-unfoldable pub asksClose : Size → Step → Op
-asksClose z x = cond (ltb (x .a) (z .p) && (eqb (x .b) 0 && (eqb (x .c) 0 && eqb (x .d) 0))) (closes (x .a)) bad
+unfoldable pub closeInRange : Size → Step → Bool
+closeInRange z x = ltb (x .a) (z .p) && (eqb (x .b) 0 && (eqb (x .c) 0 && eqb (x .d) 0))
 
 -- | 3 | read | slot, item, reach |
-unfoldable pub asksRead : Size → Step → Op
-asksRead z x =
-    cond
-    (ltb (x .a) (z .p) && (ltb (x .b) items && (reachInRange (z .n) (x .c) && eqb (x .d) 0)))
-    (reads (x .a) (x .b) (x .c))
-    bad
+unfoldable pub readInRange : Size → Step → Bool
+readInRange z x = ltb (x .a) (z .p) && (ltb (x .b) items && (reachInRange (z .n) (x .c) && eqb (x .d) 0))
 
 -- | 4 | write | slot, item, value, reach |
-unfoldable pub asksWrite : Size → Step → Op
-asksWrite z x =
-    cond (ltb (x .a) (z .p) && (ltb (x .b) items && reachInRange (z .n) (x .d))) (writes (x .a) (x .b) (x .c) (x .d)) bad
+unfoldable pub writeInRange : Size → Step → Bool
+writeInRange z x = ltb (x .a) (z .p) && (ltb (x .b) items && reachInRange (z .n) (x .d))
 
 -- | 5 | exchange | from, to, most |
-unfoldable pub asksExchange : Size → Step → Op
-asksExchange z x = cond (ltb (x .a) (z .n) && (ltb (x .b) (z .n) && eqb (x .d) 0)) (exchanges (x .a) (x .b) (x .c)) bad
+unfoldable pub exchangeInRange : Size → Step → Bool
+exchangeInRange z x = ltb (x .a) (z .n) && (ltb (x .b) (z .n) && eqb (x .d) 0)
 
 -- "The step is told apart by its kind, 1 to 5."
-unfoldable pub asked : Size → Step → Op
-asked z x =
+unfoldable pub ofKind : Size → Step → ℕ → Op
+ofKind z x kind =
     cond
-    (eqb (x .kind) 1)
-    (asksOpen z x)
-    (cond
-    (eqb (x .kind) 2)
-    (asksClose z x)
-    (cond
-    (eqb (x .kind) 3)
-    (asksRead z x)
-    (cond (eqb (x .kind) 4) (asksWrite z x) (cond (eqb (x .kind) 5) (asksExchange z x) bad))))
+      (eqb kind 1)
+      (cond (openInRange z x) (opens (x .a) (x .b)) bad)
+      (cond
+        (eqb kind 2)
+        (cond (closeInRange z x) (closes (x .a)) bad)
+        (cond
+          (eqb kind 3)
+          (cond (readInRange z x) (reads (x .a) (x .b) (x .c)) bad)
+          (cond
+            (eqb kind 4)
+            (cond (writeInRange z x) (writes (x .a) (x .b) (x .c) (x .d)) bad)
+            (cond (eqb kind 5) (cond (exchangeInRange z x) (exchanges (x .a) (x .b) (x .c)) bad) bad))))
+
+unfoldable pub asked : Size → Step → Op
+asked z x = ofKind z x (x .kind)
 
 -- 01, "Steps": "An answer is five words: code, server, origin, clock, value."
 pub record Answer : Type 0 where

@@ -1,12 +1,14 @@
 -- What is known of a step that is in range. Assumes nothing.
 use Prim.Native.Nat.{ℕ, _<_}
 use mathlib.Core.Bool.{Bool, true, false, cond, _&&_}
-use mathlib.Core.Path.{_≡_, refl}
-use borrow.Author.Tests.{ltb-true}
+use mathlib.Core.Logic.{_⊎_, inl, inr}
+use mathlib.Core.Path.{_≡_, refl, sym, subst}
+use native.Mathlib.Omega.{arith}
+use borrow.Author.Tests.{ltb-true, eqb-true}
 use lib.Dec.{ltb, eqb}
 use Rattle.words.specs.TestLaws.{cond-elim, and-left, and-right}
 use Rattle.tables.specs.Size.{Size, items, sums}
-use Rattle.steps.specs.Step.{Step, Op, bad, opens, closes, reads, writes, exchanges, reachInRange, asksOpen, asksClose, asksRead, asksWrite, asksExchange, asked}
+use Rattle.steps.specs.Step.{Step, Op, bad, opens, closes, reads, writes, exchanges, reachInRange, openInRange, closeInRange, readInRange, writeInRange, exchangeInRange, ofKind, asked}
 
 -- The arguments of what is asked lie in their ranges.
 abbrev pub InRange : Size → Op → Type 0
@@ -18,52 +20,98 @@ InRange z (writes slot item value reach) = (slot < z .p) × (item < items) × (r
 InRange z (exchanges source target most) = (source < z .n) × (target < z .n)
 
 module _ (z : Size) (x : Step) where
-  guarded : (t : Bool) (o : Op) → (t ≡ true → InRange z o) → InRange z (cond t o bad)
-  guarded true o h = h refl
-  guarded false o h = tt
-
-  open-inRange : InRange z (asksOpen z x)
-  unfolding asksOpen
-  open-inRange =
-      guarded (ltb (x .a) (z .p) && (ltb (x .b) sums && (eqb (x .c) 0 && eqb (x .d) 0))) (opens (x .a) (x .b)) (λ e. (ltb-true _ _ (search (and-left, and-right)), ltb-true _ _ (search (and-left, and-right))))
-
-  close-inRange : InRange z (asksClose z x)
-  unfolding asksClose
-  close-inRange = guarded (ltb (x .a) (z .p) && (eqb (x .b) 0 && (eqb (x .c) 0 && eqb (x .d) 0))) (closes (x .a)) (λ e. ltb-true _ _ (search (and-left, and-right)))
-
-  read-inRange : InRange z (asksRead z x)
-  unfolding asksRead
-  read-inRange =
-      guarded
-      (ltb (x .a) (z .p) && (ltb (x .b) items && (reachInRange (z .n) (x .c) && eqb (x .d) 0)))
-      (reads (x .a) (x .b) (x .c))
-      (λ e. (ltb-true _ _ (search (and-left, and-right)), ltb-true _ _ (search (and-left, and-right)), search (and-left, and-right)))
-
-  write-inRange : InRange z (asksWrite z x)
-  unfolding asksWrite
-  write-inRange =
-      guarded
-      (ltb (x .a) (z .p) && (ltb (x .b) items && reachInRange (z .n) (x .d)))
-      (writes (x .a) (x .b) (x .c) (x .d))
-      (λ e. (ltb-true _ _ (search (and-left, and-right)), ltb-true _ _ (search (and-left, and-right)), search (and-left, and-right)))
-
-  exchange-inRange : InRange z (asksExchange z x)
-  unfolding asksExchange
-  exchange-inRange =
-      guarded
-      (ltb (x .a) (z .n) && (ltb (x .b) (z .n) && eqb (x .d) 0))
-      (exchanges (x .a) (x .b) (x .c))
-      (λ e. (ltb-true _ _ (search (and-left, and-right)), ltb-true _ _ (search (and-left, and-right))))
-
-  kinds : (t : Bool) (o p : Op) → InRange z o → InRange z p → InRange z (cond t o p)
-  kinds true o p h k = h
-  kinds false o p h k = k
+  -- A fact on what is asked, from each kind that is in range.
+  by-kind : (P : Op → Type 0)
+    → (x .kind ≡ 1 → openInRange z x ≡ true → P (opens (x .a) (x .b)))
+    → (x .kind ≡ 2 → closeInRange z x ≡ true → P (closes (x .a)))
+    → (x .kind ≡ 3 → readInRange z x ≡ true → P (reads (x .a) (x .b) (x .c)))
+    → (x .kind ≡ 4 → writeInRange z x ≡ true → P (writes (x .a) (x .b) (x .c) (x .d)))
+    → (x .kind ≡ 5 → exchangeInRange z x ≡ true → P (exchanges (x .a) (x .b) (x .c)))
+    → P bad
+    → P (asked z x)
+  unfolding asked ofKind
+  by-kind P p₁ p₂ p₃ p₄ p₅ p =
+      row
+        1
+        (openInRange z x)
+        (opens (x .a) (x .b))
+        _
+        p₁
+        (row
+          2
+          (closeInRange z x)
+          (closes (x .a))
+          _
+          p₂
+          (row
+            3
+            (readInRange z x)
+            (reads (x .a) (x .b) (x .c))
+            _
+            p₃
+            (row
+              4
+              (writeInRange z x)
+              (writes (x .a) (x .b) (x .c) (x .d))
+              _
+              p₄
+              (row 5 (exchangeInRange z x) (exchanges (x .a) (x .b) (x .c)) bad p₅ p))))
+    where
+      row : (kind : ℕ) (guard : Bool) (o rest : Op) → (x .kind ≡ kind → guard ≡ true → P o) → P rest → P (cond (eqb (x .kind) kind) (cond guard o bad) rest)
+      row kind guard o rest here there =
+          cond-elim
+            P
+            (eqb (x .kind) kind)
+            (λ t. cond-elim P guard (λ g. here (eqb-true (x .kind) kind t) g) (λ g. p))
+            (λ t. there)
 
   pub asked-inRange : InRange z (asked z x)
-  unfolding asked
+  unfolding openInRange closeInRange readInRange writeInRange exchangeInRange
   asked-inRange =
-      kinds (eqb (x .kind) 1) (asksOpen z x) _ open-inRange
-      (kinds (eqb (x .kind) 2) (asksClose z x) _ close-inRange
-      (kinds (eqb (x .kind) 3) (asksRead z x) _ read-inRange
-      (kinds (eqb (x .kind) 4) (asksWrite z x) _ write-inRange
-      (kinds (eqb (x .kind) 5) (asksExchange z x) bad exchange-inRange tt))))
+      by-kind
+        (InRange z)
+        (λ k g. (ltb-true _ _ (search (and-left, and-right)), ltb-true _ _ (search (and-left, and-right))))
+        (λ k g. ltb-true _ _ (search (and-left, and-right)))
+        (λ k g. (ltb-true _ _ (search (and-left, and-right)), ltb-true _ _ (search (and-left, and-right)), search (and-left, and-right)))
+        (λ k g. (ltb-true _ _ (search (and-left, and-right)), ltb-true _ _ (search (and-left, and-right)), search (and-left, and-right)))
+        (λ k g. (ltb-true _ _ (search (and-left, and-right)), ltb-true _ _ (search (and-left, and-right))))
+        tt
+
+  -- ---- what is asked, by the kind word
+
+  pub asked-read : x .kind ≡ 3 → (asked z x ≡ reads (x .a) (x .b) (x .c)) ⊎ (asked z x ≡ bad)
+  asked-read e =
+      by-kind
+        (λ o. (o ≡ reads (x .a) (x .b) (x .c)) ⊎ (o ≡ bad))
+        (λ k g. absurd (omega arith))
+        (λ k g. absurd (omega arith))
+        (λ k g. inl refl)
+        (λ k g. absurd (omega arith))
+        (λ k g. absurd (omega arith))
+        (inr refl)
+
+  pub asked-write : x .kind ≡ 4 → (asked z x ≡ writes (x .a) (x .b) (x .c) (x .d)) ⊎ (asked z x ≡ bad)
+  asked-write e =
+      by-kind
+        (λ o. (o ≡ writes (x .a) (x .b) (x .c) (x .d)) ⊎ (o ≡ bad))
+        (λ k g. absurd (omega arith))
+        (λ k g. absurd (omega arith))
+        (λ k g. absurd (omega arith))
+        (λ k g. inl refl)
+        (λ k g. absurd (omega arith))
+        (inr refl)
+
+  -- Only kind 2 closes a slot, and only the slot that it names.
+  pub asked-close : (k : ℕ) → asked z x ≡ closes k → (x .kind ≡ 2) × (x .a ≡ k)
+  asked-close k =
+      by-kind
+        (λ o. o ≡ closes k → (x .kind ≡ 2) × (x .a ≡ k))
+        (λ p g e. other cc)
+        (λ p g e. (p, cc))
+        (λ p g e. other cc)
+        (λ p g e. other cc)
+        (λ p g e. other cc)
+        (λ e. other cc)
+    where
+      other : {A : Type 0} → _≡_ {A = ℕ} 0 1 → A
+      other e = absurd (omega arith)

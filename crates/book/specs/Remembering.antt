@@ -1,0 +1,179 @@
+-- What a session remembers of its reads and writes, and why a server that passes its check stores all of it. Assumes nothing.
+use Prim.Native.Nat.{ℕ, _<_, _≤_}
+use mathlib.Core.Bool.{Bool, true, _&&_}
+use mathlib.Core.List.{List, [], _∷_, _++_}
+use mathlib.Core.Path.{_≡_, refl, sym, _∙_, ap, subst}
+use native.Mathlib.Omega.{arith}
+use Rattle.words.specs.Lists.{In, here, upd}
+use Rattle.words.specs.ListLaws.{in-append-right, upd-same}
+use Rattle.words.specs.Tests.{implies}
+use Rattle.words.specs.TestLaws.{and-left, and-right, implies-use}
+use Rattle.vectors.specs.Vector.{dominates}
+use Rattle.vectors.specs.VectorLaws.{dominates-at, join-right}
+use Rattle.logs.specs.Write.{Write, before}
+use Rattle.tables.specs.Size.{Size}
+use Rattle.tables.specs.State.{Session, opened, State, withVector, withLog, withSlot}
+use Rattle.tables.specs.SoundState.{SoundState}
+use Rattle.tables.specs.Meaning.{Means}
+use Rattle.tables.specs.MeaningLaws.{means-state}
+use Rattle.steps.specs.Step.{Step}
+use Rattle.steps.specs.Choice.{readYourWrites, monotonicReads, writesFollowReads, monotonicWrites, upToDateToRead, upToDateToWrite}
+use Rattle.steps.specs.Rules.{newWrite, afterRead, afterWrite, accepted, hasRoom, rule}
+use Rattle.steps.specs.Done.{ReadDone, WriteDone}
+use Rattle.book.specs.Guarantee.{Stores, DependsOn, Reads, Writes, Lasts, Chose}
+use Rattle.book.specs.Session.{Still, Later}
+use Rattle.book.specs.Propagation.{Precedes, accepted-precedes}
+use Rattle.book.specs.Moments.{stateAfter, stored, stores, kept-after, still-after}
+use Rattle.book.specs.Accepted.{read-did, read-at, write-did, write-is}
+
+-- ---- a server that passes the check has what the vector covers
+
+module _ {z : Size} {s : State} (sound : SoundState z s) where
+  -- A write at or below a vector that the server's vector dominates is stored there.
+  dominated-stored : (i : ℕ) (v : ℕ → ℕ) → dominates (z .n) (s .vector i) v ≡ true → (w : Write) → In w (s .log (w .origin)) → w .clock ≤ v (w .origin)
+    → In w (s .log i)
+  dominated-stored i v h w m l =
+      sound
+        .complete
+        i
+        w
+        m
+        (omega (arith, dominates-at (z .n) (s .vector i) v h (w .origin) (sound .origins (w .origin) w m)))
+
+-- The four checks, each by the guarantee that asks for it.
+module _ (n : ℕ) (q : Session) (v : ℕ → ℕ) where
+  pub checked-mr : upToDateToRead n q v ≡ true → monotonicReads (q .guarantees) ≡ true → dominates n v (q .readVector) ≡ true
+  unfolding upToDateToRead
+  checked-mr h g = implies-use (monotonicReads (q .guarantees)) _ (and-left (implies (monotonicReads (q .guarantees)) (dominates n v (q .readVector))) _ h) g
+
+  pub checked-ryw : upToDateToRead n q v ≡ true → readYourWrites (q .guarantees) ≡ true → dominates n v (q .writeVector) ≡ true
+  unfolding upToDateToRead
+  checked-ryw h g = implies-use (readYourWrites (q .guarantees)) _ (and-right (implies (monotonicReads (q .guarantees)) (dominates n v (q .readVector))) _ h) g
+
+  pub checked-wfr : upToDateToWrite n q v ≡ true → writesFollowReads (q .guarantees) ≡ true → dominates n v (q .readVector) ≡ true
+  unfolding upToDateToWrite
+  checked-wfr h g = implies-use (writesFollowReads (q .guarantees)) _ (and-left (implies (writesFollowReads (q .guarantees)) (dominates n v (q .readVector))) _ h) g
+
+  pub checked-mw : upToDateToWrite n q v ≡ true → monotonicWrites (q .guarantees) ≡ true → dominates n v (q .writeVector) ≡ true
+  unfolding upToDateToWrite
+  checked-mw h g = implies-use (monotonicWrites (q .guarantees)) _ (and-right (implies (writesFollowReads (q .guarantees)) (dominates n v (q .readVector))) _ h) g
+
+-- ---- what a session remembers of a read and of a write
+
+-- Slot k is open and its session covers the write by the vector.
+pub record Remembers (s : State) (k : ℕ) (vector : Session → ℕ → ℕ) (w : Write) : Type 0 where
+  pub session : Session
+  pub is : s .slot k ≡ opened session
+  pub covers : w .clock ≤ vector session (w .origin)
+  pub made : In w (s .log (w .origin))
+
+module _ {z : Size} {s : State} {t : List ℕ} (means : Means z s t) (x : Step) (k : ℕ) where
+  -- After a read the read-vector covers all that the server held.
+  pub read-remembers : (i : ℕ) → Reads t x k i → (w : Write) → DependsOn t i w → Remembers (rule z s x .state) k (λ q. q .readVector) w
+  unfolding withSlot afterRead
+  read-remembers i r w m =
+      let d : ReadDone z s k (x .b) (x .c) (rule z s x .answer) (rule z s x .state) = read-did means x k i r in
+      let held : In w (s .log (d .server)) = subst (λ (j : ℕ). In w (s .log j)) (sym (read-at means x k i r)) (stored means i w m) in
+      record {
+        session = afterRead (d .session) (d .server) (s .vector (d .server));
+        is = ap (λ u. u .slot k) (d .leaves) ∙ upd-same (s .slot) k _ k refl;
+        covers =
+          omega (arith, means .state .covered (d .server) w held, join-right (d .session .readVector) (s .vector (d .server)) (w .origin));
+        made =
+          subst (λ (u : State). In w (u .log (w .origin))) (sym (d .leaves)) (means .state .home (d .server) w held)
+      }
+
+  -- After a write the write-vector covers it.
+  pub write-remembers : (w : Write) → Writes t x k w → Remembers (rule z s x .state) k (λ q. q .writeVector) w
+  unfolding accepted withSlot withVector withLog afterWrite newWrite
+  write-remembers w r =
+      let d : WriteDone z s k (x .b) (x .c) (x .d) (rule z s x .answer) (rule z s x .state) = write-did means x k w r in
+      let w′ = newWrite z s (d .server) (x .b) (x .c) in
+      let new : Remembers (rule z s x .state) k (λ q. q .writeVector) w′ =
+        record {
+          session = afterWrite (d .session) (d .server) (w′ .clock);
+          is = ap (λ u. u .slot k) (d .leaves) ∙ upd-same (s .slot) k _ k refl;
+          covers = omega (arith, upd-same (d .session .writeVector) (d .server) (w′ .clock) (d .server) refl);
+          made = subst (λ (g : List Write). In w′ g) (sym (d .stored)) (in-append-right (s .log (d .server)) (here refl))
+        } in
+      subst (Remembers (rule z s x .state) k (λ q. q .writeVector)) (sym (write-is means x k w r)) new
+
+-- Still remembered at a later moment of the session.
+module _ {z : Size} {s : State} {t : List ℕ} (means : Means z s t) (k : ℕ) (xs : List Step) (lasts : Lasts k t xs) (w : Write) where
+  remembers-after : (vector : Session → ℕ → ℕ) → ((q r : Session) → Later q r → (j : ℕ) → vector q j ≤ vector r j)
+    → Remembers s k vector w → Remembers (stateAfter z s xs) k vector w
+  remembers-after vector rises m =
+      let still : Still (stateAfter z s xs) k (m .session) = still-after means k (m .session) (m .is) xs lasts in
+      record {
+        session = still .session;
+        is = still .is;
+        covers = omega (arith, m .covers, rises (m .session) (still .session) (still .later) (w .origin));
+        made = kept-after means xs (w .origin) w (m .made)
+      }
+
+  pub read-after : Remembers s k (λ q. q .readVector) w → Remembers (stateAfter z s xs) k (λ q. q .readVector) w
+  read-after = remembers-after (λ q. q .readVector) (λ q r l. l .read)
+
+  pub write-after : Remembers s k (λ q. q .writeVector) w → Remembers (stateAfter z s xs) k (λ q. q .writeVector) w
+  write-after = remembers-after (λ q. q .writeVector) (λ q r l. l .wrote)
+
+-- ---- the later step is served by a server that stores what the session remembers
+
+module _ {z : Size} {s : State} {t : List ℕ} (means : Means z s t) (y : Step) (k : ℕ) (w : Write) where
+  -- The session that chose, the session that remembers and the session served are one.
+  one-session : {q r : Session} → s .slot k ≡ opened q → s .slot k ≡ opened r → q ≡ r
+  one-session p e = cc
+
+  chose-here : (guarantee : ℕ → Bool) (q : Session) → s .slot k ≡ opened q → Chose t k guarantee → guarantee (q .guarantees) ≡ true
+  chose-here guarantee q e c =
+      subst
+        (λ (r : Session). guarantee (r .guarantees) ≡ true)
+        (one-session (ap (λ u. u .slot k) (sym (means-state means)) ∙ c .is) e)
+        (c .chosen)
+
+  pub read-served : (guarantee : ℕ → Bool) (vector : Session → ℕ → ℕ)
+    → ((q : Session) (v : ℕ → ℕ) → upToDateToRead (z .n) q v ≡ true → guarantee (q .guarantees) ≡ true → dominates (z .n) v (vector q) ≡ true)
+    → (j : ℕ) → Reads t y k j → Chose t k guarantee → Remembers s k vector w → Stores t j w
+  read-served guarantee vector checked j r c m =
+      let d : ReadDone z s k (y .b) (y .c) (rule z s y .answer) (rule z s y .state) = read-did means y k j r in
+      let q = d .session in
+      stores
+        means
+        j
+        w
+        (subst
+          (λ (i : ℕ). In w (s .log i))
+          (read-at means y k j r)
+          (dominated-stored
+            (means .state)
+            (d .server)
+            (vector q)
+            (checked q (s .vector (d .server)) (d .chosen .passed) (chose-here guarantee q (d .open-slot) c))
+            w
+            (m .made)
+            (subst (λ (p : Session). w .clock ≤ vector p (w .origin)) (one-session (m .is) (d .open-slot)) (m .covers))))
+
+  pub write-served : (guarantee : ℕ → Bool) (vector : Session → ℕ → ℕ)
+    → ((q : Session) (v : ℕ → ℕ) → upToDateToWrite (z .n) q v ≡ true → guarantee (q .guarantees) ≡ true → dominates (z .n) v (vector q) ≡ true)
+    → (w₂ : Write) → Writes t y k w₂ → Chose t k guarantee → Remembers s k vector w → Precedes (rule z s y .state) w w₂
+  write-served guarantee vector checked w₂ r c m =
+      let d : WriteDone z s k (y .b) (y .c) (y .d) (rule z s y .answer) (rule z s y .state) = write-did means y k w₂ r in
+      let q = d .session in
+      let held : In w (s .log (d .server)) =
+        dominated-stored
+          (means .state)
+          (d .server)
+          (vector q)
+          (checked
+            q
+            (s .vector (d .server))
+            (and-left (upToDateToWrite (z .n) q (s .vector (d .server))) (hasRoom z s (d .server)) (d .chosen .passed))
+            (chose-here guarantee q (d .open-slot) c))
+          w
+          (m .made)
+          (subst (λ (p : Session). w .clock ≤ vector p (w .origin)) (one-session (m .is) (d .open-slot)) (m .covers)) in
+      mathlib.Core.Path.subst₂
+        (λ (u : State) (v : Write). Precedes u w v)
+        (sym (d .leaves))
+        (sym (write-is means y k w₂ r))
+        (accepted-precedes (means .state) k q (d .server) (y .b) (y .c) (d .chosen .server) w held)

@@ -6,6 +6,7 @@ pub mod Matching
 pub mod MatchingLaws
 pub mod MatchingLawsKept
 pub mod Simulation
+pub mod Schedule
 pub mod Session
 pub mod Propagation
 pub mod Guarantee

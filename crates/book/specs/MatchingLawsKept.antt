@@ -202,6 +202,6 @@ arrived-matching {s} {b} m i v ws g t =
 -- ---- at the start
 
 -- An empty book matches an empty state.
-pub fresh : Matching empty blank
+pub fresh-matching : Matching empty blank
 unfolding empty blank held
-fresh = record { members = λ i. record { over = λ w h. h; back = λ w h. h }; sizes = λ i. refl; slots = λ k. tt }
+fresh-matching = record { members = λ i. record { over = λ w h. h; back = λ w h. h }; sizes = λ i. refl; slots = λ k. tt }

@@ -2,6 +2,7 @@
 use Prim.Native.Nat.{ℕ, _%_}
 use mathlib.Core.Bool.{Bool, cond, _&&_}
 use mathlib.Core.List.{List, [], _∷_}
+use mathlib.Core.Path.{_≡_}
 use lib.Dec.{eqb}
 use lib.ListN.{length}
 use Rattle.tables.specs.Size.{Size}
@@ -55,3 +56,16 @@ run t steps answers =
     (lengthsFit steps answers)
     (record { code = 0; table = walk t (stepsOf steps) .table; answers = answerWords (walk t (stepsOf steps) .answers) })
     (record { code = 8; table = t; answers = answers })
+
+-- ---- the promises
+
+-- A step's: the answer and every word of the table are those of `step`.
+pub record StepPromise (t : List ℕ) (x : Step) (answer : Answer) (left : List ℕ) : Type 0 where
+  pub answer-is : answer ≡ step t x .answer
+  pub table-is : left ≡ step t x .table
+
+-- A run's: its code and every word of table and answer buffer are those of `run`.
+pub record RunPromise (t steps answers : List ℕ) (code : ℕ) (left written-answers : List ℕ) : Type 0 where
+  pub code-is : code ≡ run t steps answers .code
+  pub table-is : left ≡ run t steps answers .table
+  pub answers-are : written-answers ≡ run t steps answers .answers

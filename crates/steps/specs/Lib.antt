@@ -10,6 +10,7 @@ pub mod Codes
 pub mod CodeLaws
 pub mod Calls
 pub mod CallLaws
+pub mod RunLaws
 pub mod Done
 pub mod DoneLaws
 pub mod Exact

@@ -2,6 +2,7 @@
 use Prim.Native.Nat.{ℕ, _-_}
 use mathlib.Core.Bool.{Bool, cond}
 use mathlib.Core.List.{List, _++_}
+use mathlib.Core.Path.{_≡_}
 use lib.Dec.{eqb}
 use lib.ListN.{length, replicate}
 use Rattle.tables.specs.Size.{Size, within}
@@ -23,3 +24,8 @@ making z buffer =
     (within z)
     (cond (eqb (length buffer) (size z)) (record { code = 0; buffer = fresh z }) (record { code = 8; buffer = buffer }))
     (record { code = 2; buffer = buffer })
+
+-- The promise of making: the code and every word of the buffer are those of `making`.
+pub record MakePromise (z : Size) (buffer : List ℕ) (code : ℕ) (left : List ℕ) : Type 0 where
+  pub code-is : code ≡ making z buffer .code
+  pub buffer-is : left ≡ making z buffer .buffer

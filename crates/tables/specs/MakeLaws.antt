@@ -1,15 +1,20 @@
--- A fresh table is the words of the empty state. Assumes nothing.
+-- A fresh table is the words of the empty state, and what making answers. Assumes nothing.
 use Prim.Native.Nat.{ℕ, _+_, _-_, _*_}
+use mathlib.Core.Bool.{Bool, true, false}
 use mathlib.Core.List.{List, [], _∷_, _++_}
+use mathlib.Core.Logic.{_⊎_, inl, inr, ⊎-elim, _↔_}
 use mathlib.Core.Path.{_≡_, refl, sym, _∙_, ap}
 use native.Mathlib.Omega.{arith}
-use lib.ListN.{replicate, replicate-append-replicate}
+use borrow.Author.Tests.{eqb-true, eqb-false, eq-eqb, ne-eqb}
+use lib.Dec.{eqb}
+use lib.ListN.{length, replicate, replicate-append-replicate}
 use Rattle.words.specs.BlockLaws.{row-replicate, blocks-replicate}
+use Rattle.words.specs.TestLaws.{cond-true, cond-false, either, true-not-false}
 use Rattle.logs.specs.Places.{width, places}
 use Rattle.logs.specs.PlacesLaws.{places-nil}
 use Rattle.tables.specs.Layout.{size, headWords, slotWords, encode}
-use Rattle.tables.specs.Make.{fresh}
-use Rattle.tables.specs.Size.{Size}
+use Rattle.tables.specs.Make.{fresh, Made, making, MakePromise}
+use Rattle.tables.specs.Size.{Size, within}
 use Rattle.tables.specs.State.{closed, empty}
 
 -- A server with no write has zeros for its vector and its count.
@@ -34,3 +39,72 @@ fresh-encode z =
       replicate-append-replicate {A = ℕ} a (b + c) 0,
       e,
     ))
+
+-- ---- making
+
+module _ (z : Size) (buffer : List ℕ) where
+  -- The three outcomes, in the order of checking.
+  make-limits : within z ≡ false → making z buffer ≡ record { code = 2; buffer = buffer }
+  unfolding making
+  make-limits e = cond-false (within z) _ _ e
+
+  make-length : within z ≡ true → (length buffer ≡ size z → ⊥) → making z buffer ≡ record { code = 8; buffer = buffer }
+  unfolding making
+  make-length e h = cond-true (within z) _ _ e ∙ cond-false (eqb (length buffer) (size z)) _ _ (ne-eqb (length buffer) (size z) h)
+
+  pub make-done : within z ≡ true → length buffer ≡ size z → making z buffer ≡ record { code = 0; buffer = fresh z }
+  unfolding making
+  make-done e h = cond-true (within z) _ _ e ∙ cond-true (eqb (length buffer) (size z)) _ _ (eq-eqb (length buffer) (size z) h)
+
+  -- Whatever is asked, one of the three.
+  make-cases : {A : Type 0} → (within z ≡ false → A) → (within z ≡ true → (length buffer ≡ size z → ⊥) → A)
+    → (within z ≡ true → length buffer ≡ size z → A) → A
+  make-cases limits misfit fit =
+      ⊎-elim
+        (λ e.
+          ⊎-elim
+            (λ h. fit e (eqb-true (length buffer) (size z) h))
+            (λ h. misfit e (eqb-false (length buffer) (size z) h))
+            (either (eqb (length buffer) (size z))))
+        limits
+        (either (within z))
+
+  -- "Making a table tests 2, ..": 2 exactly if N, L or P is out of range,
+  pub make-2-exactly : (making z buffer .code ≡ 2) ↔ (within z ≡ false)
+  make-2-exactly =
+      (λ e.
+        make-cases
+          (λ l. l)
+          (λ l h. absurd (omega (arith, ap (λ m. m .code) (make-length l h))))
+          (λ l h. absurd (omega (arith, ap (λ m. m .code) (make-done l h)))),
+      λ l. ap (λ m. m .code) (make-limits l))
+
+  -- ".. then 8": 8 exactly if they are in range and the buffer's length is not exact.
+  pub make-8-exactly : (making z buffer .code ≡ 8) ↔ ((within z ≡ true) × (length buffer ≡ size z → ⊥))
+  make-8-exactly =
+      (λ e.
+        make-cases
+          (λ l. absurd (omega (arith, ap (λ m. m .code) (make-limits l))))
+          (λ l h. (l, h))
+          (λ l h. absurd (omega (arith, ap (λ m. m .code) (make-done l h)))),
+      λ l. ap (λ m. m .code) (make-length (l .0) (l .1)))
+
+  -- ".. and writes nothing if refused."
+  pub make-refused : (making z buffer .code ≡ 0 → ⊥) → making z buffer .buffer ≡ buffer
+  make-refused h =
+      make-cases
+        (λ l. ap (λ m. m .buffer) (make-limits l))
+        (λ l e. ap (λ m. m .buffer) (make-length l e))
+        (λ l e. absurd (h (ap (λ m. m .code) (make-done l e))))
+
+  -- What is made is a fresh table within the limits.
+  pub made-fresh : making z buffer .code ≡ 0 → (within z ≡ true) × (making z buffer .buffer ≡ fresh z)
+  made-fresh e =
+      make-cases
+        (λ l. absurd (omega (arith, ap (λ m. m .code) (make-limits l))))
+        (λ l h. absurd (omega (arith, ap (λ m. m .code) (make-length l h))))
+        (λ l h. (l, ap (λ m. m .buffer) (make-done l h)))
+
+  -- Two results that the promise of making allows are equal.
+  pub make-settled : (c₁ c₂ : ℕ) (l₁ l₂ : List ℕ) → MakePromise z buffer c₁ l₁ → MakePromise z buffer c₂ l₂ → (c₁ ≡ c₂) × (l₁ ≡ l₂)
+  make-settled c₁ c₂ l₁ l₂ p q = (p .code-is ∙ sym (q .code-is), p .buffer-is ∙ sym (q .buffer-is))

@@ -37,9 +37,9 @@ blank = record { arrived = λ i. []; slot = λ k. shut }
 unfoldable pub held : Book → ℕ → List Write
 held b i = b .arrived i
 
--- What a read at a server depends on: "a read is taken to depend on all that its server held".
-unfoldable pub relevant : Book → ℕ → ℕ → List Write
-relevant b i item = held b i
+-- What a read of the item depends on, of all that its server holds: "a read is taken to depend on all that its server held".
+unfoldable pub relevant : ℕ → List Write → List Write
+relevant item holds = holds
 
 -- ---- sets of writes
 
@@ -127,7 +127,7 @@ bookReadFrom b k item q (some i) =
           withBookSlot
           b
           k
-          (live (record { guarantees = q .guarantees; lastUsed = suc i; readSet = relevant b i item ++ q .readSet; writeSet = q .writeSet }));
+          (live (record { guarantees = q .guarantees; lastUsed = suc i; readSet = relevant item (held b i) ++ q .readSet; writeSet = q .writeSet }));
     }
 
 unfoldable pub bookReading : Size → Book → ℕ → ℕ → ℕ → BookSlot → BookOutcome

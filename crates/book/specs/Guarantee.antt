@@ -10,6 +10,7 @@ use Rattle.tables.specs.State.{Session, opened}
 use Rattle.tables.specs.Layout.{sizeOf, decode}
 use Rattle.steps.specs.Step.{Step}
 use Rattle.steps.specs.Calls.{step, walk}
+use Rattle.book.specs.Book.{relevant}
 
 -- 002, section 2: "DB(S,t)", the writes that server i stores, read off the table's words.
 unfoldable pub database : List ℕ → ℕ → List Write
@@ -19,9 +20,9 @@ database t i = decode (sizeOf t) t .log i
 abbrev pub Stores : List ℕ → ℕ → Write → Type 0
 Stores t i w = In w (database t i)
 
--- What a read at server i is taken to depend on, 002's RelevantWrites: all that its server holds.
-abbrev pub DependsOn : List ℕ → ℕ → Write → Type 0
-DependsOn t i w = Stores t i w
+-- 002, section 3.2: "RelevantWrites(S,t,R)", what the read x at server i depends on.
+abbrev pub DependsOn : List ℕ → Step → ℕ → Write → Type 0
+DependsOn t x i w = In w (relevant (x .b) (database t i))
 
 -- The table after a schedule, refused steps included.
 unfoldable pub after : List ℕ → List Step → List ℕ

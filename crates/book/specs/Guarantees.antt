@@ -79,7 +79,7 @@ module _ (z : Size) (limits : within z ≡ true) (pre : List Step) (x : Step) (m
   -- Monotonic Reads. 002, 3.2: "If Read R1 occurs before R2 in a session and R1 accesses server S1 at time t1 and R2 accesses server S2 at
   -- time t2, then RelevantWrites(S1,t1,R1) is a subset of DB(S2,t2)."
   pub monotonic-reads : (k i j : ℕ) → Reads t₁ x k i → Lasts k t₂ mid → Reads t₃ y k j → Chose t₃ k monotonicReads
-    → (w : Write) → DependsOn t₁ i w → Stores t₃ j w
+    → (w : Write) → DependsOn t₁ x i w → Stores t₃ j w
   unfolding stateAfter
   monotonic-reads k i j first lasts second chose w depends =
       read-served
@@ -107,7 +107,7 @@ module _ (z : Size) (limits : within z ≡ true) (pre : List Step) (x : Step) (m
   -- server S2, if W2 is in DB(S2) then any W1 in RelevantWrites(S1,t1,R1) is also in DB(S2) and WriteOrder(W1,W2)." At every later moment,
   -- also after the session has closed.
   pub writes-follow-reads : (k i : ℕ) (w₂ : Write) → Reads t₁ x k i → Lasts k t₂ mid → Writes t₃ y k w₂ → Chose t₃ k writesFollowReads
-    → (w₁ : Write) → DependsOn t₁ i w₁ → (j : ℕ) → Stores t₅ j w₂ → Stores t₅ j w₁ × (before w₁ w₂ ≡ true)
+    → (w₁ : Write) → DependsOn t₁ x i w₁ → (j : ℕ) → Stores t₅ j w₂ → Stores t₅ j w₁ × (before w₁ w₂ ≡ true)
   unfolding stateAfter
   writes-follow-reads k i w₂ read lasts wrote chose w₁ depends =
       behind-for-ever

@@ -20,7 +20,8 @@ use Rattle.steps.specs.Step.{Step}
 use Rattle.steps.specs.Choice.{readYourWrites, monotonicReads, writesFollowReads, monotonicWrites, upToDateToRead, upToDateToWrite}
 use Rattle.steps.specs.Rules.{newWrite, afterRead, afterWrite, accepted, hasRoom, rule}
 use Rattle.steps.specs.Done.{ReadDone, WriteDone}
-use Rattle.book.specs.Guarantee.{Stores, DependsOn, Reads, Writes, Lasts, Chose}
+use Rattle.book.specs.Book.{relevant}
+use Rattle.book.specs.Guarantee.{database, Stores, DependsOn, Reads, Writes, Lasts, Chose}
 use Rattle.book.specs.Session.{Still, Later}
 use Rattle.book.specs.Propagation.{Precedes, accepted-precedes}
 use Rattle.book.specs.Moments.{stateAfter, stored, stores, kept-after, still-after}
@@ -60,6 +61,11 @@ module _ (n : ℕ) (q : Session) (v : ℕ → ℕ) where
 
 -- ---- what a session remembers of a read and of a write
 
+-- A read depends on nothing that its server does not hold.
+relevant-held : (item : ℕ) (holds : List Write) (w : Write) → In w (relevant item holds) → In w holds
+unfolding relevant
+relevant-held item holds w m = m
+
 -- Slot k is open and its session covers the write by the vector.
 pub record Remembers (s : State) (k : ℕ) (vector : Session → ℕ → ℕ) (w : Write) : Type 0 where
   pub session : Session
@@ -69,11 +75,11 @@ pub record Remembers (s : State) (k : ℕ) (vector : Session → ℕ → ℕ) (w
 
 module _ {z : Size} {s : State} {t : List ℕ} (means : Means z s t) (x : Step) (k : ℕ) where
   -- After a read the read-vector covers all that the server held.
-  pub read-remembers : (i : ℕ) → Reads t x k i → (w : Write) → DependsOn t i w → Remembers (rule z s x .state) k (λ q. q .readVector) w
+  pub read-remembers : (i : ℕ) → Reads t x k i → (w : Write) → DependsOn t x i w → Remembers (rule z s x .state) k (λ q. q .readVector) w
   unfolding withSlot afterRead
   read-remembers i r w m =
       let d : ReadDone z s k (x .b) (x .c) (rule z s x .answer) (rule z s x .state) = read-did means x k i r in
-      let held : In w (s .log (d .server)) = subst (λ (j : ℕ). In w (s .log j)) (sym (read-at means x k i r)) (stored means i w m) in
+      let held : In w (s .log (d .server)) = subst (λ (j : ℕ). In w (s .log j)) (sym (read-at means x k i r)) (stored means i w (relevant-held (x .b) (database t i) w m)) in
       record {
         session = afterRead (d .session) (d .server) (s .vector (d .server));
         is = ap (λ u. u .slot k) (d .leaves) ∙ upd-same (s .slot) k _ k refl;

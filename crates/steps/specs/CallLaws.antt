@@ -7,6 +7,7 @@ use mathlib.Core.Path.{_≡_, refl, sym, _∙_, ap, ap₂, subst}
 use native.Mathlib.Omega.{arith}
 use borrow.Author.Tests.{leb-true}
 use lib.Dec.{leb}
+use lib.ListN.{length, replicate}
 use Rattle.words.specs.Lists.{In}
 use Rattle.words.specs.ListLaws.{in-nil, in-cons}
 use Rattle.words.specs.TestLaws.{cond-true, cond-false, either, and-left}
@@ -136,10 +137,9 @@ pub schedule-not-1 : (z : Size) → within z ≡ true → (xs : List Step) (r : 
 schedule-not-1 z limits xs = walk-not-1 (fresh z) xs (fresh-sound z limits)
 
 -- Over an unsound table every step answers 1, and the table stays.
-pub walk-unsound : (t : List ℕ) (xs : List Step) → sound t ≡ false → (walk t xs .table ≡ t) × ((r : Answer) → In r (walk t xs .answers) → r ≡ refused 1)
+pub walk-unsound : (t : List ℕ) (xs : List Step) → sound t ≡ false → walk t xs ≡ record { answers = replicate (length xs) (refused 1); table = t }
 unfolding walk onward
-walk-unsound t [] h = (refl, λ r m. in-nil m)
+walk-unsound t [] h = refl
 walk-unsound t (x ∷ xs) h =
     let e : step t x ≡ record { answer = refused 1; table = t } = step-unsound t x h in
-    let later = walk-unsound (step t x .table) xs (ap (λ o. sound (o .table)) e ∙ h) in
-    (later .0 ∙ ap (λ o. o .table) e, λ r m. ⊎-elim (λ q. q ∙ ap (λ o. o .answer) e) (λ m′. later .1 r m′) (in-cons m))
+    ap (λ o. onward (o .answer) (walk (o .table) xs)) e ∙ ap (onward (refused 1)) (walk-unsound t xs h)

@@ -5,7 +5,7 @@ use mathlib.Core.List.{List, [], _∷_, _++_}
 use mathlib.Core.Logic.{_⊎_, inl, inr, ⊎-elim}
 use mathlib.Core.Option.{Option, none, some}
 use mathlib.Core.Path.{_≡_, refl, sym, _∙_, ap, ap₂, subst}
-use native.Mathlib.Nat.{pow-suc, pow-succ', div-div-eq-div-mul, div-one, mul-comm}
+use native.Mathlib.Nat.{pow-succ', div-div-eq-div-mul, div-one, zero-div}
 use native.Mathlib.Omega.{arith}
 use borrow.Author.Tests.{eqb-true, eqb-false, eq-eqb, ne-eqb}
 use lib.Dec.{eqb}
@@ -98,6 +98,15 @@ pub around-below : (n start : ℕ) → start < n → (j : ℕ) → In j (around 
 unfolding around
 around-below n start h = onwards-below n n start h
 
+-- 01, "Choice": "The search starts at the last-used server (0 if none)".
+pub starts-last : (q : Session) (i : ℕ) → q .lastUsed ≡ suc i → startOf q ≡ i
+unfolding startOf
+starts-last q i e = omega arith
+
+pub starts-none : (q : Session) → q .lastUsed ≡ 0 → startOf q ≡ 0
+unfolding startOf
+starts-none q e = omega arith
+
 pub start-below : {n : ℕ} {own : ℕ → ℕ} {q : Session} → SoundSession n own q → 1 ≤ n → startOf q < n
 unfolding startOf
 start-below c h = omega (arith, c .used)
@@ -147,6 +156,13 @@ pub record Reachable (n reach : ℕ) : Type 0 where
   pub server : ℕ
   pub below : server < n
   pub reached : reaches reach server ≡ true
+
+-- With reach 0 no server is reachable.
+pub reach-none : (n : ℕ) → Reachable n 0 → ⊥
+unfolding reaches
+reach-none n f =
+    let e : 0 / 2 ^ f .server ≡ 0 = zero-div (2 ^ f .server) in
+    true-not-false (f .reached) (ap (λ r. eqb (r % 2) 1) e)
 
 pub reach-some : (n reach : ℕ) → reachInRange n reach ≡ true → (reach ≡ 0 → ⊥) → Reachable n reach
 unfolding reachInRange reaches

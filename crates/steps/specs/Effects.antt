@@ -63,28 +63,28 @@ module _ (z : Size) (s : State) (some-server : 1 ≤ z .n) (sound : SoundState z
   opening-effect : (k g : ℕ) (o : Slot) → s .slot k ≡ o → Done (opens k g) (opening s k g o)
   unfolding opening
   opening-effect k g closed e = was-opened e
-  opening-effect k g (opened q) e = refusal (opens k g) 3 (omega arith)
+  opening-effect k g (opened q) e = refusal (opens k g) _ (omega arith)
 
   closing-effect : (k : ℕ) (o : Slot) → s .slot k ≡ o → Done (closes k) (closing s k o)
   unfolding closing
-  closing-effect k closed e = refusal (closes k) 3 (omega arith)
+  closing-effect k closed e = refusal (closes k) _ (omega arith)
   closing-effect k (opened q) e = was-closed q e
 
   readFrom-effect : (k item reach : ℕ) (q : Session) → s .slot k ≡ opened q → (found : Option ℕ)
       → ((i : ℕ) → found ≡ some i → ChosenToRead z s q reach i)
       → Done (reads k item reach) (readFrom s k item q found)
   unfolding readFrom
-  readFrom-effect k item reach q e none chosen = refusal (reads k item reach) 6 (omega arith)
+  readFrom-effect k item reach q e none chosen = refusal (reads k item reach) _ (omega arith)
   readFrom-effect k item reach q e (some i) chosen = was-read q i e (chosen i refl)
 
   reading-effect : (k item reach : ℕ) (o : Slot) → s .slot k ≡ o → Done (reads k item reach) (reading z s k item reach o)
   unfolding reading
-  reading-effect k item reach closed e = refusal (reads k item reach) 3 (omega arith)
+  reading-effect k item reach closed e = refusal (reads k item reach) _ (omega arith)
   reading-effect k item reach (opened q) e =
       cond-elim
       (Done (reads k item reach))
       (eqb reach 0)
-      (λ t. refusal (reads k item reach) 5 (omega arith))
+      (λ t. refusal (reads k item reach) _ (omega arith))
       (λ t.
       readFrom-effect k item reach q e _ (λ i f. choose-some (z .n) (startOf q) reach (λ j. upToDateToRead (z .n) q (s .vector j)) i (starts k q e) f))
 
@@ -92,18 +92,18 @@ module _ (z : Size) (s : State) (some-server : 1 ≤ z .n) (sound : SoundState z
       → ((i : ℕ) → roomy ≡ some i → ChosenToWrite z s q reach i)
       → Done (writes k item value reach) (writeTo z s k item value q found roomy)
   unfolding writeTo
-  writeTo-effect k item value reach q e none roomy chosen = refusal (writes k item value reach) 6 (omega arith)
-  writeTo-effect k item value reach q e (some i) none chosen = refusal (writes k item value reach) 7 (omega arith)
+  writeTo-effect k item value reach q e none roomy chosen = refusal (writes k item value reach) _ (omega arith)
+  writeTo-effect k item value reach q e (some i) none chosen = refusal (writes k item value reach) _ (omega arith)
   writeTo-effect k item value reach q e (some i) (some j) chosen = was-written q j e (chosen j refl)
 
   writing-effect : (k item value reach : ℕ) (o : Slot) → s .slot k ≡ o → Done (writes k item value reach) (writing z s k item value reach o)
   unfolding writing
-  writing-effect k item value reach closed e = refusal (writes k item value reach) 3 (omega arith)
+  writing-effect k item value reach closed e = refusal (writes k item value reach) _ (omega arith)
   writing-effect k item value reach (opened q) e =
       cond-elim
       (Done (writes k item value reach))
       (eqb reach 0)
-      (λ t. refusal (writes k item value reach) 5 (omega arith))
+      (λ t. refusal (writes k item value reach) _ (omega arith))
       (λ t.
       writeTo-effect
       k
@@ -123,13 +123,13 @@ module _ (z : Size) (s : State) (some-server : 1 ≤ z .n) (sound : SoundState z
       cond-elim
       (Done (exchanges source target most))
       (eqb source target)
-      (λ t. refusal (exchanges source target most) 4 (omega arith))
+      (λ t. refusal (exchanges source target most) _ (omega arith))
       (λ t. was-exchanged (eqb-false source target t))
 
   -- Every step has one of the six effects.
   pub effect : (o : Op) → Effect z s o (obeyed z s o .answer) (obeyed z s o .state)
   unfolding obeyed
-  effect bad = refusal bad 2 (omega arith)
+  effect bad = refusal bad _ (omega arith)
   effect (opens k g) = opening-effect k g (s .slot k) refl
   effect (closes k) = closing-effect k (s .slot k) refl
   effect (reads k item reach) = reading-effect k item reach (s .slot k) refl

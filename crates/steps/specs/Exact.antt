@@ -1,15 +1,13 @@
 -- Demand 2, of the step on words that the delivered calls promise. Assumes nothing.
-use Prim.Native.Nat.{ℕ, _<_, _≤_, _/_, _%_, _^_}
+use Prim.Native.Nat.{ℕ, _<_, _≤_}
 use mathlib.Core.Bool.{Bool, true, false}
 use mathlib.Core.List.{List}
 use mathlib.Core.Logic.{_⊎_, inl, inr, ⊎-elim, _↔_}
 use mathlib.Core.Path.{_≡_, refl, sym, _∙_, ap, subst}
 use native.Mathlib.Omega.{arith}
-use native.Mathlib.Nat.{zero-div}
-use borrow.Author.Tests.{eqb-true}
-use lib.Dec.{eqb}
 use Rattle.words.specs.TestLaws.{either, true-not-false, not-true-false}
 use Rattle.logs.specs.Rules.{greatestOf}
+use Rattle.logs.specs.RulesLaws.{greatest-unique}
 use Rattle.tables.specs.Size.{Size}
 use Rattle.tables.specs.State.{Session, opened, State}
 use Rattle.tables.specs.Layout.{sizeOf, decode}
@@ -19,7 +17,7 @@ use Rattle.tables.specs.MeaningLaws.{sound-means, means-size, means-state}
 use Rattle.steps.specs.Step.{Step, Op, reads, writes, exchanges, reachInRange, asked, Answer, refused}
 use Rattle.steps.specs.StepLaws.{InRange, asked-inRange}
 use Rattle.steps.specs.Choice.{reaches, upToDateToRead, upToDateToWrite}
-use Rattle.steps.specs.ChoiceLaws.{Reachable, reach-some}
+use Rattle.steps.specs.ChoiceLaws.{Reachable, reach-some, reach-none}
 use Rattle.steps.specs.Rules.{rule}
 use Rattle.steps.specs.Effects.{Effect}
 use Rattle.steps.specs.Codes.{Given, NoneReachable, BehindBy, Behind, reads-behind, writes-behind, Full}
@@ -27,7 +25,7 @@ use Rattle.steps.specs.CodeLaws.{code-exactly}
 use Rattle.steps.specs.Done.{ReadDone, WriteDone, ExchangeDone}
 use Rattle.steps.specs.DoneLaws.{read-done, write-done, exchange-done}
 use Rattle.steps.specs.Calls.{step}
-use Rattle.steps.specs.CallLaws.{within-server, step-unsound, step-answer, step-effect, means-next, step-not-1}
+use Rattle.steps.specs.CallLaws.{within-server, step-unsound, step-answer, step-effect, means-next, step-sound, step-not-1}
 
 -- ---- the codes
 
@@ -67,6 +65,52 @@ pub full-exactly : (t : List ℕ) (x : Step)
     → (step t x .answer .code ≡ 7) ↔ ((sound t ≡ true) × Full (sizeOf t) (decode (sizeOf t) t) (asked (sizeOf t) x))
 full-exactly t x = given-exactly t x 7 (omega arith)
 
+-- "To an otherwise proper call, "behind" is given exactly when some server is reachable and no reachable server passes the check": the
+-- table is sound, the arguments are in range, and the slot is open.
+module _ (t : List ℕ) (x : Step) (is-sound : sound t ≡ true) (k reach : ℕ) (q : Session) (is-open : decode (sizeOf t) t .slot k ≡ opened q) where
+  -- Some server is reachable, and none that is passes the check.
+  abbrev pub NonePasses : (ℕ → Session → (ℕ → ℕ) → Bool) → Type 0
+  NonePasses upToDate =
+      Reachable (sizeOf t .n) reach
+        × ((i : ℕ) → i < sizeOf t .n → reaches reach i ≡ true → upToDate (sizeOf t .n) q (decode (sizeOf t) t .vector i) ≡ false)
+
+  none-passes : (upToDate : ℕ → Session → (ℕ → ℕ) → Bool) → reachInRange (sizeOf t .n) reach ≡ true
+    → BehindBy (sizeOf t) (decode (sizeOf t) t) upToDate k reach ↔ NonePasses upToDate
+  none-passes upToDate range =
+      (λ b.
+        let same : b .session ≡ q = one-session (b .is) in
+        (reach-some (sizeOf t .n) reach range (b .reached),
+        λ i l r. subst (λ (p : Session). upToDate (sizeOf t .n) p (decode (sizeOf t) t .vector i) ≡ false) same (b .stale i l r)),
+      λ n.
+        record {
+          session = q;
+          is = is-open;
+          reached = λ e. reach-none (sizeOf t .n) (subst (Reachable (sizeOf t .n)) e (n .0));
+          stale = n .1
+        })
+    where
+      one-session : {p : Session} → decode (sizeOf t) t .slot k ≡ opened p → p ≡ q
+      one-session e = cc
+
+  pub read-behind-exactly : (item : ℕ) → asked (sizeOf t) x ≡ reads k item reach → (step t x .answer .code ≡ 6) ↔ NonePasses upToDateToRead
+  read-behind-exactly item e =
+      let range = subst (InRange (sizeOf t)) e (asked-inRange (sizeOf t) x) in
+      (λ c. none-passes upToDateToRead (range .2) .0 (unread (subst (Behind (sizeOf t) (decode (sizeOf t) t)) e (behind-exactly t x .0 c .1))),
+      λ n. behind-exactly t x .1 (is-sound, subst (Behind (sizeOf t) (decode (sizeOf t) t)) (sym e) (reads-behind (none-passes upToDateToRead (range .2) .1 n))))
+    where
+      unread : Behind (sizeOf t) (decode (sizeOf t) t) (reads k item reach) → BehindBy (sizeOf t) (decode (sizeOf t) t) upToDateToRead k reach
+      unread (reads-behind b) = b
+
+  pub write-behind-exactly : (item value : ℕ) → asked (sizeOf t) x ≡ writes k item value reach
+    → (step t x .answer .code ≡ 6) ↔ NonePasses upToDateToWrite
+  write-behind-exactly item value e =
+      let range = subst (InRange (sizeOf t)) e (asked-inRange (sizeOf t) x) in
+      (λ c. none-passes upToDateToWrite (range .2) .0 (unwritten (subst (Behind (sizeOf t) (decode (sizeOf t) t)) e (behind-exactly t x .0 c .1))),
+      λ n. behind-exactly t x .1 (is-sound, subst (Behind (sizeOf t) (decode (sizeOf t) t)) (sym e) (writes-behind (none-passes upToDateToWrite (range .2) .1 n))))
+    where
+      unwritten : Behind (sizeOf t) (decode (sizeOf t) t) (writes k item value reach) → BehindBy (sizeOf t) (decode (sizeOf t) t) upToDateToWrite k reach
+      unwritten (writes-behind b) = b
+
 -- ---- what accepted steps do
 
 module _ (t : List ℕ) (x : Step) (is-sound : sound t ≡ true) (done : step t x .answer .code ≡ 0) where
@@ -99,3 +143,12 @@ module _ (t : List ℕ) (x : Step) (is-sound : sound t ≡ true) (done : step t 
   pub exchange-exactly : (source target most : ℕ) → asked z x ≡ exchanges source target most
     → ExchangeDone z s source target most (step t x .answer) after
   exchange-exactly source target most e = exchange-done (sound-means t is-sound .state) (happened (exchanges source target most) e) done
+
+-- 002, section 5: a server's version vector "precisely specifies the set of Writes in its database". After every step on a sound table,
+-- accepted or refused, each component is the greatest clock of its origin in the server's log, or 0.
+pub vectors-follow : (t : List ℕ) (x : Step) → sound t ≡ true → (i j : ℕ)
+    → let u = decode (sizeOf (step t x .table)) (step t x .table) in u .vector i j ≡ greatestOf j (u .log i)
+vectors-follow t x h i j =
+    let u = decode (sizeOf (step t x .table)) (step t x .table) in
+    let state = sound-means (step t x .table) (step-sound t x h) .state in
+    greatest-unique j (u .vector i j) (u .log i) (λ w m e. subst (λ k. w .clock ≤ u .vector i k) e (state .covered i w m)) (state .attained i j)

@@ -3,6 +3,7 @@ pub mod StepLaws
 pub mod Choice
 pub mod ChoiceLaws
 pub mod Rules
+pub mod Figure1
 pub mod Effects
 pub mod Grown
 pub mod SoundKept

@@ -3,11 +3,11 @@ use Prim.Native.Nat.{ℕ, suc, _+_, _*_, _%_}
 use mathlib.Core.Bool.{Bool, true, false, _&&_}
 use mathlib.Core.List.{List, [], _∷_, _++_}
 use mathlib.Core.Logic.{_⊎_, inl, inr, ⊎-elim, _↔_}
-use mathlib.Core.Path.{_≡_, refl, sym, _∙_, ap, ap₂}
+use mathlib.Core.Path.{_≡_, refl, sym, _∙_, ap}
 use native.Mathlib.Omega.{arith}
 use borrow.Author.Tests.{eqb-true, eq-eqb}
 use lib.Dec.{eqb}
-use lib.ListN.{length}
+use lib.ListN.{length, replicate}
 use Rattle.words.specs.TestLaws.{cond-true, cond-false, either, true-not-false, not-true-false, and-left, and-right, and-both}
 use Rattle.tables.specs.Layout.{sizeOf, decode, encode, size}
 use Rattle.tables.specs.LayoutLaws.{length-encode}
@@ -16,7 +16,7 @@ use Rattle.tables.specs.MeaningLaws.{sound-means}
 use Rattle.steps.specs.Step.{Step, stepWords, stepsOf, Answer, refused, answerWords}
 use Rattle.steps.specs.Rules.{rule}
 use Rattle.steps.specs.Calls.{step, Walked, onward, walk, Ran, lengthsFit, run, StepPromise, RunPromise}
-use Rattle.steps.specs.CallLaws.{step-unsound, means-next}
+use Rattle.steps.specs.CallLaws.{step-unsound, means-next, walk-unsound}
 
 -- ---- lengths
 
@@ -111,6 +111,13 @@ module _ (t steps answers : List ℕ) where
               same)))
         (λ h. (ap (λ o. length (o .table)) (run-misfits h), ap (λ o. length (o .answers)) (run-misfits h)))
         (either (lengthsFit steps answers))
+
+-- "With fitting lengths the run itself answers 0, over an unsound table too, where each step answers 1."
+pub run-unsound : (t steps answers : List ℕ) → sound t ≡ false → lengthsFit steps answers ≡ true
+    → run t steps answers ≡ record { code = 0; table = t; answers = answerWords (replicate (length (stepsOf steps)) (refused 1)) }
+run-unsound t steps answers h fit =
+    run-fits t steps answers fit
+      ∙ ap (λ (w : Walked). record { code = 0; table = w .table; answers = answerWords (w .answers) }) (walk-unsound t (stepsOf steps) h)
 
 -- "An empty list with an empty answer buffer answers 0", and alters nothing.
 pub run-empty : (t : List ℕ) → run t [] [] ≡ record { code = 0; table = t; answers = [] }

@@ -2,15 +2,15 @@
 use Prim.Native.Nat.{ℕ, suc, _<_, _≤_}
 use mathlib.Core.Bool.{true, _&&_}
 use mathlib.Core.List.{List, [], _∷_, _++_}
+use mathlib.Core.Logic.{⊎-elim}
 use mathlib.Core.Path.{_≡_, refl, sym, _∙_, ap, subst}
 use native.Mathlib.Omega.{arith}
+use borrow.Author.Tests.{eqb-true, eqb-false}
+use lib.Dec.{eqb}
 use Rattle.words.specs.Lists.{In, upd}
-use Rattle.words.specs.ListLaws.{upd-same, upd-elim}
-use Rattle.words.specs.TestLaws.{and-left, and-right}
-use Rattle.vectors.specs.Vector.{join}
-use Rattle.vectors.specs.VectorLaws.{join-least}
+use Rattle.words.specs.ListLaws.{upd-same}
+use Rattle.words.specs.TestLaws.{either, and-right}
 use Rattle.logs.specs.Write.{Write}
-use Rattle.logs.specs.Log.{insertAll, follow}
 use Rattle.tables.specs.Size.{Size, sums}
 use Rattle.tables.specs.State.{Session, Slot, closed, opened, State, withVector, withLog, withSlot}
 use Rattle.tables.specs.SoundState.{SoundState, SoundSession, SoundSlot}
@@ -20,34 +20,41 @@ use Rattle.steps.specs.StepLaws.{InRange}
 use Rattle.steps.specs.Choice.{upToDateToWrite}
 use Rattle.steps.specs.Rules.{newSession, afterRead, afterWrite, newWrite, hasRoom, accepted, sent, received}
 use Rattle.steps.specs.Effects.{Effect, was-refused, was-opened, was-closed, was-read, was-written, was-exchanged, ChosenToWrite}
+use Rattle.steps.specs.Figure1.{read-raises, read-leaves, read-chosen, read-uses, write-sets, write-leaves, write-reads, write-chosen, write-uses, new-chosen, new-unused, new-reads, new-writes}
 use Rattle.steps.specs.Grown.{write-grows, exchange-grows}
 
 -- ---- sessions
 
 new-sound : (n : ℕ) (own : ℕ → ℕ) (g : ℕ) → g < sums → SoundSession n own (newSession g)
-unfolding newSession
-new-sound n own g h = record { chosen = h; used = omega arith; readBelow = λ j. omega arith; writeBelow = λ j. omega arith }
+new-sound n own g h =
+    record {
+      chosen = omega (arith, new-chosen g);
+      used = omega (arith, new-unused g);
+      readBelow = λ j. omega (arith, new-reads g j);
+      writeBelow = λ j. omega (arith, new-writes g j)
+    }
 
 read-sound : (n : ℕ) (own : ℕ → ℕ) (q : Session) → SoundSession n own q → (i : ℕ) (v : ℕ → ℕ) → i < n → ((j : ℕ) → v j ≤ own j) → SoundSession n own (afterRead q i v)
-unfolding afterRead
 read-sound n own q c i v h below =
     record {
-      chosen = c .chosen;
-      used = h;
-      readBelow = λ j. join-least (q .readVector) v j (own j) (c .readBelow j) (below j);
-      writeBelow = c .writeBelow;
+      chosen = omega (arith, read-chosen q i v, c .chosen);
+      used = omega (arith, read-uses q i v);
+      readBelow = λ j. omega (arith, read-raises q i v j, c .readBelow j, below j);
+      writeBelow = λ j. omega (arith, read-leaves q i v j, c .writeBelow j)
     }
 
 write-sound : (n : ℕ) (own : ℕ → ℕ) (q : Session) → SoundSession n own q → (i clock : ℕ) → i < n → clock ≤ own i → SoundSession n own (afterWrite q i clock)
-unfolding afterWrite
 write-sound n own q c i clock h below =
     record {
-      chosen = c .chosen;
-      used = h;
-      readBelow = c .readBelow;
+      chosen = omega (arith, write-chosen q i clock, c .chosen);
+      used = omega (arith, write-uses q i clock);
+      readBelow = λ j. omega (arith, write-reads q i clock j, c .readBelow j);
       writeBelow =
-          λ j.
-          upd-elim (λ m. m ≤ own j) (q .writeVector) i clock j (λ e. omega (arith, ap own e)) (λ e. c .writeBelow j);
+        λ j.
+        ⊎-elim
+          (λ e. omega (arith, write-sets q i clock j (eqb-true j i e), ap own (eqb-true j i e)))
+          (λ e. omega (arith, write-leaves q i clock j (eqb-false j i e), c .writeBelow j))
+          (either (eqb j i))
     }
 
 -- ---- the six effects
@@ -75,7 +82,7 @@ module _ {z : Size} {s : State} (sound : SoundState z s) where
       let w = newWrite z s i item value in
       let u = upd (s .vector i) i (w .clock) in
       let grows = written-grows k item value reach q i range c in
-      let grown : SoundState z (withVector (withLog s i (s .log i ++ (w ∷ []))) i u) = grows-sound sound i (w ∷ []) (s .log i ++ (w ∷ [])) u grows in
+      let grown : SoundState z (withVector (withLog s i (s .log i ++ (w ∷ []))) i u) = grows-sound sound grows in
       slot-sound
       grown
       k
@@ -89,7 +96,7 @@ module _ {z : Size} {s : State} (sound : SoundState z s) where
       (z .n)
       (λ j. s .vector j j)
       (λ j. upd (s .vector) i u j j)
-      (grows-above sound i (w ∷ []) (s .log i ++ (w ∷ [])) u grows)
+      (grows-above sound grows)
       (opened q)
       (session-sound k q e))
       i
@@ -113,13 +120,7 @@ module _ {z : Size} {s : State} (sound : SoundState z s) where
   effect-sound range (was-written {k = k} {item = item} {value = value} {reach = reach} q i e c) =
       written-sound k item value reach q i range e c
   effect-sound range (was-exchanged {source = source} {target = target} {most = most} e) =
-      grows-sound
-      sound
-      target
-      (sent z s source target most)
-      (insertAll (sent z s source target most) (s .log target))
-      (follow (sent z s source target most) (s .vector target))
-      (exchange-grows sound source target most (range .1))
+      grows-sound sound (exchange-grows sound source target most (range .1))
 
   -- No log loses a write.
   pub effect-keeps : {o : Op} {r : Answer} {after : State} → InRange z o → Effect z s o r after → (i : ℕ) (w : Write) → In w (s .log i) → In w (after .log i)
@@ -129,24 +130,6 @@ module _ {z : Size} {s : State} (sound : SoundState z s) where
   effect-keeps range (was-closed q e) i w m = m
   effect-keeps range (was-read q j e c) i w m = m
   effect-keeps range (was-written {k = k} {item = item} {value = value} {reach = reach} q j e c) i w m =
-      grows-keeps
-      sound
-      j
-      (newWrite z s j item value ∷ [])
-      (s .log j ++ (newWrite z s j item value ∷ []))
-      (upd (s .vector j) j (newWrite z s j item value .clock))
-      (written-grows k item value reach q j range c)
-      i
-      w
-      m
+      grows-keeps sound (written-grows k item value reach q j range c) i w m
   effect-keeps range (was-exchanged {source = source} {target = target} {most = most} e) i w m =
-      grows-keeps
-      sound
-      target
-      (sent z s source target most)
-      (insertAll (sent z s source target most) (s .log target))
-      (follow (sent z s source target most) (s .vector target))
-      (exchange-grows sound source target most (range .1))
-      i
-      w
-      m
+      grows-keeps sound (exchange-grows sound source target most (range .1)) i w m

@@ -84,7 +84,7 @@ module _ {z : Size} {s : State} (sound : SoundState z s) where
         noSlot = λ m l. upd-other (s .slot) k o m (λ e. omega arith) ∙ sound .noSlot m l;
       }
 
-  module _ (t : ℕ) (news g : List Write) (v : ℕ → ℕ) (grows : Grows z s t news g v) where
+  module _ {t : ℕ} {news g : List Write} {v : ℕ → ℕ} (grows : Grows z s t news g v) where
     -- A fact on every write of every log, from the writes that came and those that were there.
     everywhere : (P : Write → Type 0) → ((w : Write) → In w news → P w) → ((i : ℕ) (w : Write) → In w (s .log i) → P w)
         → (i : ℕ) (w : Write) → In w (upd (s .log) t g i) → P w

@@ -33,6 +33,22 @@ slotWidth z = 2 * z .n + 2
 unfoldable pub slotAt : Size → ℕ → ℕ
 slotAt z k = 4 + z .n * (z .n + 1) + z .n * (z .l * width) + k * (2 * z .n + 2)
 
+unfoldable pub placeAt : Size → ℕ → ℕ → ℕ
+placeAt z i e = logAt z i + e * width
+
+unfoldable pub guaranteesAt : Size → ℕ → ℕ
+guaranteesAt z k = slotAt z k
+
+unfoldable pub lastUsedAt : Size → ℕ → ℕ
+lastUsedAt z k = slotAt z k + 1
+
+unfoldable pub readAt : Size → ℕ → ℕ → ℕ
+readAt z k j = slotAt z k + (2 + j)
+
+unfoldable pub writeAt : Size → ℕ → ℕ → ℕ
+writeAt z k j = slotAt z k + (2 + z .n + j)
+
+-- How many words in all.
 unfoldable pub size : Size → ℕ
 size z = 4 + z .n * (z .n + 1) + z .n * (z .l * width) + z .p * (2 * z .n + 2)
 

@@ -7,6 +7,7 @@ pub mod SoundState
 pub mod SlotLaws
 pub mod SoundStateLaws
 pub mod LayoutLaws
+pub mod OffsetLaws
 pub mod DecodeLaws
 pub mod MakeLaws
 pub mod Meaning

@@ -37,7 +37,7 @@ module _ {z : Size} {s : State} {t : List ℕ} (means : Means z s t) (x : Step) 
   accepted-rule e = ap (λ (r : Answer). r .code) (sym (step-answer means x)) ∙ e
 
   accepted-effect : step t x .answer .code ≡ 0 → (o : Op) → (asked z x ≡ o) ⊎ (asked z x ≡ bad)
-    → Effect z s o (rule z s x .answer) (rule z s x .state)
+      → Effect z s o (rule z s x .answer) (rule z s x .state)
   accepted-effect e o (inl p) = subst (λ (q : Op). Effect z s q (rule z s x .answer) (rule z s x .state)) p (step-effect means x)
   accepted-effect e o (inr p) =
       bad-refused (subst (λ (q : Op). Effect z s q (rule z s x .answer) (rule z s x .state)) p (step-effect means x)) (accepted-rule e)
@@ -45,25 +45,25 @@ module _ {z : Size} {s : State} {t : List ℕ} (means : Means z s t) (x : Step) 
   pub read-did : (i : ℕ) → Reads t x k i → ReadDone z s k (x .b) (x .c) (rule z s x .answer) (rule z s x .state)
   read-did i r =
       subst
-        (λ (m : ℕ). ReadDone z s m (x .b) (x .c) (rule z s x .answer) (rule z s x .state))
-        (r .slot)
-        (read-done (accepted-effect (r .accepted) (reads (x .a) (x .b) (x .c)) (asked-read z x (r .kind))) (accepted-rule (r .accepted)))
+      (λ (m : ℕ). ReadDone z s m (x .b) (x .c) (rule z s x .answer) (rule z s x .state))
+      (r .slot)
+      (read-done (accepted-effect (r .accepted) (reads (x .a) (x .b) (x .c)) (asked-read z x (r .kind))) (accepted-rule (r .accepted)))
 
   pub read-at : (i : ℕ) (r : Reads t x k i) → read-did i r .server ≡ i
   read-at i r =
       let d : ReadDone z s k (x .b) (x .c) (rule z s x .answer) (rule z s x .state) = read-did i r in
       sym (read-server (d .server) (lastOn (x .b) (s .log (d .server))))
-        ∙ (ap (λ (a : Answer). a .server) (sym (step-answer means x ∙ d .answered)) ∙ r .server)
+      ∙ (ap (λ (a : Answer). a .server) (sym (step-answer means x ∙ d .answered)) ∙ r .server)
 
   pub write-did : (w : Write) → Writes t x k w → WriteDone z s k (x .b) (x .c) (x .d) (rule z s x .answer) (rule z s x .state)
   write-did w r =
       subst
-        (λ (m : ℕ). WriteDone z s m (x .b) (x .c) (x .d) (rule z s x .answer) (rule z s x .state))
-        (r .slot)
-        (write-done
-          (means .state)
-          (accepted-effect (r .accepted) (writes (x .a) (x .b) (x .c) (x .d)) (asked-write z x (r .kind)))
-          (accepted-rule (r .accepted)))
+      (λ (m : ℕ). WriteDone z s m (x .b) (x .c) (x .d) (rule z s x .answer) (rule z s x .state))
+      (r .slot)
+      (write-done
+      (means .state)
+      (accepted-effect (r .accepted) (writes (x .a) (x .b) (x .c) (x .d)) (asked-write z x (r .kind)))
+      (accepted-rule (r .accepted)))
 
   -- The write made is the one answered.
   pub write-is : (w : Write) (r : Writes t x k w) → w ≡ newWrite z s (write-did w r .server) (x .b) (x .c)
@@ -71,6 +71,6 @@ module _ {z : Size} {s : State} {t : List ℕ} (means : Means z s t) (x : Step) 
   write-is w r =
       let d : WriteDone z s k (x .b) (x .c) (x .d) (rule z s x .answer) (rule z s x .state) = write-did w r in
       r .made
-        ∙ ap
-          (λ (a : Answer). record { origin = a .origin; clock = a .clock; item = x .b; value = x .c })
-          (step-answer means x ∙ d .answered)
+      ∙ ap
+      (λ (a : Answer). record { origin = a .origin; clock = a .clock; item = x .b; value = x .c })
+      (step-answer means x ∙ d .answered)

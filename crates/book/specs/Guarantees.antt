@@ -40,7 +40,7 @@ module _ (z : Size) (limits : within z ≡ true) (pre : List Step) (x : Step) (m
   pub one-schedule : after (fresh z) (pre ++ (x ∷ mid) ++ (y ∷ post)) ≡ t₅
   one-schedule =
       after-append (fresh z) (pre ++ (x ∷ mid)) (y ∷ post)
-        ∙ (ap (λ t. after t (y ∷ post)) (after-append (fresh z) pre (x ∷ mid) ∙ after-append t₁ (x ∷ []) mid) ∙ after-append t₃ (y ∷ []) post)
+      ∙ (ap (λ t. after t (y ∷ post)) (after-append (fresh z) pre (x ∷ mid) ∙ after-append t₁ (x ∷ []) mid) ∙ after-append t₃ (y ∷ []) post)
 
   -- The states that they mean.
   m₁ : Means z (stateAfter z empty pre) t₁
@@ -64,89 +64,89 @@ module _ (z : Size) (limits : within z ≡ true) (pre : List Step) (x : Step) (m
   unfolding stateAfter
   read-your-writes k j w wrote lasts read chose =
       read-served
-        m₃
-        y
-        k
-        w
-        readYourWrites
-        (λ q. q .writeVector)
-        (checked-ryw (z .n))
-        j
-        read
-        chose
-        (write-after m₂ k mid lasts w (write-remembers m₁ x k w wrote))
+      m₃
+      y
+      k
+      w
+      readYourWrites
+      (λ q. q .writeVector)
+      (checked-ryw (z .n))
+      j
+      read
+      chose
+      (write-after m₂ k mid lasts w (write-remembers m₁ x k w wrote))
 
   -- Monotonic Reads. 002, 3.2: "If Read R1 occurs before R2 in a session and R1 accesses server S1 at time t1 and R2 accesses server S2 at
   -- time t2, then RelevantWrites(S1,t1,R1) is a subset of DB(S2,t2)."
   pub monotonic-reads : (k i j : ℕ) → Reads t₁ x k i → Lasts k t₂ mid → Reads t₃ y k j → Chose t₃ k monotonicReads
-    → (w : Write) → DependsOn t₁ x i w → Stores t₃ j w
+      → (w : Write) → DependsOn t₁ x i w → Stores t₃ j w
   unfolding stateAfter
   monotonic-reads k i j first lasts second chose w depends =
       read-served
-        m₃
-        y
-        k
-        w
-        monotonicReads
-        (λ q. q .readVector)
-        (checked-mr (z .n))
-        j
-        second
-        chose
-        (read-after m₂ k mid lasts w (read-remembers m₁ x k i first w depends))
+      m₃
+      y
+      k
+      w
+      monotonicReads
+      (λ q. q .readVector)
+      (checked-mr (z .n))
+      j
+      second
+      chose
+      (read-after m₂ k mid lasts w (read-remembers m₁ x k i first w depends))
 
   -- What a write is behind when it is made it is behind at every later moment and at every server.
   behind-for-ever : (w₁ w₂ : Write) → Precedes (stateAfter z (stateAfter z (stateAfter z (stateAfter z empty pre) (x ∷ [])) mid) (y ∷ [])) w₁ w₂
-    → (j : ℕ) → Stores t₅ j w₂ → Stores t₅ j w₁ × (before w₁ w₂ ≡ true)
+      → (j : ℕ) → Stores t₅ j w₂ → Stores t₅ j w₁ × (before w₁ w₂ ≡ true)
   behind-for-ever w₁ w₂ p j m =
       let q : Precedes (stateAfter z (stateAfter z (stateAfter z (stateAfter z (stateAfter z empty pre) (x ∷ [])) mid) (y ∷ [])) post) w₁ w₂ =
-        precedes-after m₄ post w₁ w₂ p in
+      precedes-after m₄ post w₁ w₂ p in
       (stores m₅ j w₁ (q .along j (stored m₅ j w₂ m)), q .ordered)
 
   -- Writes Follow Reads. 002, 3.3: "If Read R1 precedes Write W2 in a session and R1 is performed at server S1 at time t1, then, for any
   -- server S2, if W2 is in DB(S2) then any W1 in RelevantWrites(S1,t1,R1) is also in DB(S2) and WriteOrder(W1,W2)." At every later moment,
   -- also after the session has closed.
   pub writes-follow-reads : (k i : ℕ) (w₂ : Write) → Reads t₁ x k i → Lasts k t₂ mid → Writes t₃ y k w₂ → Chose t₃ k writesFollowReads
-    → (w₁ : Write) → DependsOn t₁ x i w₁ → (j : ℕ) → Stores t₅ j w₂ → Stores t₅ j w₁ × (before w₁ w₂ ≡ true)
+      → (w₁ : Write) → DependsOn t₁ x i w₁ → (j : ℕ) → Stores t₅ j w₂ → Stores t₅ j w₁ × (before w₁ w₂ ≡ true)
   unfolding stateAfter
   writes-follow-reads k i w₂ read lasts wrote chose w₁ depends =
       behind-for-ever
-        w₁
-        w₂
-        (write-served
-          m₃
-          y
-          k
-          w₁
-          writesFollowReads
-          (λ q. q .readVector)
-          (checked-wfr (z .n))
-          w₂
-          wrote
-          chose
-          (read-after m₂ k mid lasts w₁ (read-remembers m₁ x k i read w₁ depends)))
+      w₁
+      w₂
+      (write-served
+      m₃
+      y
+      k
+      w₁
+      writesFollowReads
+      (λ q. q .readVector)
+      (checked-wfr (z .n))
+      w₂
+      wrote
+      chose
+      (read-after m₂ k mid lasts w₁ (read-remembers m₁ x k i read w₁ depends)))
 
   -- Monotonic Writes. 002, 3.4: "If Write W1 precedes Write W2 in a session, then, for any server S2, if W2 is in DB(S2) then W1 is also
   -- in DB(S2) and WriteOrder(W1,W2)." At every later moment, also after the session has closed.
   pub monotonic-writes : (k : ℕ) (w₁ w₂ : Write) → Writes t₁ x k w₁ → Lasts k t₂ mid → Writes t₃ y k w₂ → Chose t₃ k monotonicWrites
-    → (j : ℕ) → Stores t₅ j w₂ → Stores t₅ j w₁ × (before w₁ w₂ ≡ true)
+      → (j : ℕ) → Stores t₅ j w₂ → Stores t₅ j w₁ × (before w₁ w₂ ≡ true)
   unfolding stateAfter
   monotonic-writes k w₁ w₂ first lasts second chose =
       behind-for-ever
-        w₁
-        w₂
-        (write-served
-          m₃
-          y
-          k
-          w₁
-          monotonicWrites
-          (λ q. q .writeVector)
-          (checked-mw (z .n))
-          w₂
-          second
-          chose
-          (write-after m₂ k mid lasts w₁ (write-remembers m₁ x k w₁ first)))
+      w₁
+      w₂
+      (write-served
+      m₃
+      y
+      k
+      w₁
+      monotonicWrites
+      (λ q. q .writeVector)
+      (checked-mw (z .n))
+      w₂
+      second
+      chose
+      (write-after m₂ k mid lasts w₁ (write-remembers m₁ x k w₁ first)))
 
 -- No server ever loses a write: what is stored at one moment is stored at every later one.
 pub never-lost : (z : Size) → within z ≡ true → (pre post : List Step) (i : ℕ) (w : Write) → Stores (after (fresh z) pre) i w
@@ -154,6 +154,6 @@ pub never-lost : (z : Size) → within z ≡ true → (pre post : List Step) (i 
 never-lost z limits pre post i w m =
     let m₁ : Means z (stateAfter z empty pre) (after (fresh z) pre) = means-after (fresh-means z limits) pre in
     mathlib.Core.Path.subst
-      (λ (t : List ℕ). Stores t i w)
-      (sym (after-append (fresh z) pre post))
-      (stores (means-after m₁ post) i w (kept-after m₁ post i w (stored m₁ i w m)))
+    (λ (t : List ℕ). Stores t i w)
+    (sym (after-append (fresh z) pre post))
+    (stores (means-after m₁ post) i w (kept-after m₁ post i w (stored m₁ i w m)))

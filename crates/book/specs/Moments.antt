@@ -16,7 +16,7 @@ use Rattle.steps.specs.StepLaws.{asked-inRange, asked-close}
 use Rattle.steps.specs.Rules.{rule}
 use Rattle.steps.specs.SoundKept.{effect-keeps}
 use Rattle.steps.specs.Calls.{step, onward, walk}
-use Rattle.steps.specs.CallLaws.{step-effect, step-answer, means-next}
+use Rattle.steps.specs.CallLaws.{step-effect, step-answer, means-next, walk-append}
 use Rattle.book.specs.Guarantee.{database, Stores, after, Closes, Lasts}
 use Rattle.book.specs.Session.{Still, later-refl, later-trans, effect-still}
 use Rattle.book.specs.Propagation.{Precedes, effect-precedes}
@@ -28,9 +28,8 @@ stateAfter z s (x ∷ xs) = stateAfter z (rule z s x .state) xs
 
 -- One schedule behind another.
 pub after-append : (t : List ℕ) (xs ys : List Step) → after t (xs ++ ys) ≡ after (after t xs) ys
-unfolding after walk onward
-after-append t [] ys = refl
-after-append t (x ∷ xs) ys = after-append (step t x .table) xs ys
+unfolding after
+after-append t xs ys = ap (λ w. w .table) (walk-append t xs ys)
 
 module _ {z : Size} {s : State} {t : List ℕ} (means : Means z s t) where
   -- What the words store is what the state holds.
@@ -64,17 +63,17 @@ unfolding stateAfter
 still-after means k q e [] lasts = record { session = q; is = e; later = later-refl q }
 still-after {z} {s} {t} means k q e (x ∷ xs) lasts =
     let next : Still (rule z s x .state) k q =
-      effect-still
-        (means .state)
-        k
-        q
-        e
-        (step-effect means x)
-        (λ o d.
-          let c = asked-close z x k o in
-          lasts .0 (record { kind = c .0; slot = c .1; accepted = ap (λ (r : Answer). r .code) (step-answer means x) ∙ d })) in
+    effect-still
+    (means .state)
+    k
+    q
+    e
+    (step-effect means x)
+    (λ o d.
+    let c = asked-close z x k o in
+    lasts .0 (record { kind = c .0; slot = c .1; accepted = ap (λ (r : Answer). r .code) (step-answer means x) ∙ d })) in
     let end : Still (stateAfter z (rule z s x .state) xs) k (next .session) =
-      still-after (means-next means x) k (next .session) (next .is) xs (lasts .1) in
+    still-after (means-next means x) k (next .session) (next .is) xs (lasts .1) in
     record { session = end .session; is = end .is; later = later-trans (next .later) (end .later) }
 
 -- What precedes a write precedes it ever after.

@@ -36,7 +36,7 @@ module _ {z : Size} {s : State} (sound : SoundState z s) where
 
   -- What a server holds precedes the write that it accepts.
   pub accepted-precedes : (k : ℕ) (q : Session) (j item value : ℕ) → j < z .n → (w₁ : Write) → In w₁ (s .log j)
-    → Precedes (accepted s k q j (newWrite z s j item value)) w₁ (newWrite z s j item value)
+      → Precedes (accepted s k q j (newWrite z s j item value)) w₁ (newWrite z s j item value)
   unfolding accepted withSlot withVector withLog newWrite
   accepted-precedes k q j item value h w₁ m =
       let w₂ = newWrite z s j item value in
@@ -44,65 +44,65 @@ module _ {z : Size} {s : State} (sound : SoundState z s) where
         ordered = new-last sound j item value h w₁ m;
         made = subst (λ (g : List Write). In w₂ g) (sym (upd-same (s .log) j (s .log j ++ (w₂ ∷ [])) j refl)) (in-append-right (s .log j) (here refl));
         along =
-          λ i.
-          upd-elim
+            λ i.
+            upd-elim
             (λ (g : List Write). In w₂ g → In w₁ g)
             (s .log)
             j
             (s .log j ++ (w₂ ∷ []))
             i
             (λ e m′. in-append-left (w₂ ∷ []) m)
-            (λ e m′. new-nowhere j item value h i m′)
+            (λ e m′. new-nowhere j item value h i m′);
       }
 
   module _ (w₁ w₂ : Write) (precedes : Precedes s w₁ w₂) where
     along-written : (j item value : ℕ) → j < z .n → (i : ℕ)
-      → In w₂ (upd (s .log) j (s .log j ++ (newWrite z s j item value ∷ [])) i)
-      → In w₁ (upd (s .log) j (s .log j ++ (newWrite z s j item value ∷ [])) i)
+        → In w₂ (upd (s .log) j (s .log j ++ (newWrite z s j item value ∷ [])) i)
+        → In w₁ (upd (s .log) j (s .log j ++ (newWrite z s j item value ∷ [])) i)
     along-written j item value h i =
         let w = newWrite z s j item value in
         upd-elim
-          (λ (g : List Write). In w₂ g → In w₁ g)
-          (s .log)
-          j
-          (s .log j ++ (w ∷ []))
-          i
-          (λ e m.
-            in-append-left
-              (w ∷ [])
-              (⊎-elim
-                (λ m′. precedes .along j m′)
-                (λ m′. new-nowhere j item value h (w₂ .origin) (subst (λ (x : Write). In x (s .log (w₂ .origin))) (in-one m′) (precedes .made)))
-                (in-append-cases (s .log j) m)))
-          (λ e m. precedes .along i m)
+        (λ (g : List Write). In w₂ g → In w₁ g)
+        (s .log)
+        j
+        (s .log j ++ (w ∷ []))
+        i
+        (λ e m.
+        in-append-left
+        (w ∷ [])
+        (⊎-elim
+        (λ m′. precedes .along j m′)
+        (λ m′. new-nowhere j item value h (w₂ .origin) (subst (λ (x : Write). In x (s .log (w₂ .origin))) (in-one m′) (precedes .made)))
+        (in-append-cases (s .log j) m)))
+        (λ e m. precedes .along i m)
 
     along-received : (source target most i : ℕ)
-      → In w₂ (upd (s .log) target (insertAll (sent z s source target most) (s .log target)) i)
-      → In w₁ (upd (s .log) target (insertAll (sent z s source target most) (s .log target)) i)
+        → In w₂ (upd (s .log) target (insertAll (sent z s source target most) (s .log target)) i)
+        → In w₁ (upd (s .log) target (insertAll (sent z s source target most) (s .log target)) i)
     along-received source target most i =
         let ws = sent z s source target most in
         upd-elim
-          (λ (g : List Write). In w₂ g → In w₁ g)
-          (s .log)
-          target
-          (insertAll ws (s .log target))
-          i
-          (λ e m.
-            ⊎-elim
-              (λ m′.
-                sent-after
-                  sound
-                  source
-                  target
-                  most
-                  w₂
-                  w₁
-                  m′
-                  (precedes .along source (sent-from sound source target most w₂ m′))
-                  (precedes .ordered))
-              (λ m′. insertAll-old ws (precedes .along target m′))
-              (in-insertAll ws (s .log target) m))
-          (λ e m. precedes .along i m)
+        (λ (g : List Write). In w₂ g → In w₁ g)
+        (s .log)
+        target
+        (insertAll ws (s .log target))
+        i
+        (λ e m.
+        ⊎-elim
+        (λ m′.
+        sent-after
+        sound
+        source
+        target
+        most
+        w₂
+        w₁
+        m′
+        (precedes .along source (sent-from sound source target most w₂ m′))
+        (precedes .ordered))
+        (λ m′. insertAll-old ws (precedes .along target m′))
+        (in-insertAll ws (s .log target) m))
+        (λ e m. precedes .along i m)
 
     -- No step parts them.
     pub effect-precedes : {o : Op} {r : Answer} {after : State} → InRange z o → Effect z s o r after → Precedes after w₁ w₂
@@ -111,7 +111,7 @@ module _ {z : Size} {s : State} (sound : SoundState z s) where
         record {
           ordered = precedes .ordered;
           made = effect-keeps sound range effect (w₂ .origin) w₂ (precedes .made);
-          along = along effect
+          along = along effect;
         }
       where
         along : {o : Op} {r : Answer} {after : State} → Effect z s o r after → (i : ℕ) → In w₂ (after .log i) → In w₁ (after .log i)

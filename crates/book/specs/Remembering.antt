@@ -32,14 +32,14 @@ use Rattle.book.specs.Accepted.{read-did, read-at, write-did, write-is}
 module _ {z : Size} {s : State} (sound : SoundState z s) where
   -- A write at or below a vector that the server's vector dominates is stored there.
   dominated-stored : (i : ℕ) (v : ℕ → ℕ) → dominates (z .n) (s .vector i) v ≡ true → (w : Write) → In w (s .log (w .origin)) → w .clock ≤ v (w .origin)
-    → In w (s .log i)
+      → In w (s .log i)
   dominated-stored i v h w m l =
       sound
-        .complete
-        i
-        w
-        m
-        (omega (arith, dominates-at (z .n) (s .vector i) v h (w .origin) (sound .origins (w .origin) w m)))
+      .complete
+      i
+      w
+      m
+      (omega (arith, dominates-at (z .n) (s .vector i) v h (w .origin) (sound .origins (w .origin) w m)))
 
 -- The four checks, each by the guarantee that asks for it.
 module _ (n : ℕ) (q : Session) (v : ℕ → ℕ) where
@@ -84,9 +84,9 @@ module _ {z : Size} {s : State} {t : List ℕ} (means : Means z s t) (x : Step) 
         session = afterRead (d .session) (d .server) (s .vector (d .server));
         is = ap (λ u. u .slot k) (d .leaves) ∙ upd-same (s .slot) k _ k refl;
         covers =
-          omega (arith, means .state .covered (d .server) w held, join-right (d .session .readVector) (s .vector (d .server)) (w .origin));
+            omega (arith, means .state .covered (d .server) w held, join-right (d .session .readVector) (s .vector (d .server)) (w .origin));
         made =
-          subst (λ (u : State). In w (u .log (w .origin))) (sym (d .leaves)) (means .state .home (d .server) w held)
+            subst (λ (u : State). In w (u .log (w .origin))) (sym (d .leaves)) (means .state .home (d .server) w held);
       }
 
   -- After a write the write-vector covers it.
@@ -96,25 +96,25 @@ module _ {z : Size} {s : State} {t : List ℕ} (means : Means z s t) (x : Step) 
       let d : WriteDone z s k (x .b) (x .c) (x .d) (rule z s x .answer) (rule z s x .state) = write-did means x k w r in
       let w′ = newWrite z s (d .server) (x .b) (x .c) in
       let new : Remembers (rule z s x .state) k (λ q. q .writeVector) w′ =
-        record {
-          session = afterWrite (d .session) (d .server) (w′ .clock);
-          is = ap (λ u. u .slot k) (d .leaves) ∙ upd-same (s .slot) k _ k refl;
-          covers = omega (arith, upd-same (d .session .writeVector) (d .server) (w′ .clock) (d .server) refl);
-          made = subst (λ (g : List Write). In w′ g) (sym (d .stored)) (in-append-right (s .log (d .server)) (here refl))
-        } in
+      record {
+        session = afterWrite (d .session) (d .server) (w′ .clock);
+        is = ap (λ u. u .slot k) (d .leaves) ∙ upd-same (s .slot) k _ k refl;
+        covers = omega (arith, upd-same (d .session .writeVector) (d .server) (w′ .clock) (d .server) refl);
+        made = subst (λ (g : List Write). In w′ g) (sym (d .stored)) (in-append-right (s .log (d .server)) (here refl));
+      } in
       subst (Remembers (rule z s x .state) k (λ q. q .writeVector)) (sym (write-is means x k w r)) new
 
 -- Still remembered at a later moment of the session.
 module _ {z : Size} {s : State} {t : List ℕ} (means : Means z s t) (k : ℕ) (xs : List Step) (lasts : Lasts k t xs) (w : Write) where
   remembers-after : (vector : Session → ℕ → ℕ) → ((q r : Session) → Later q r → (j : ℕ) → vector q j ≤ vector r j)
-    → Remembers s k vector w → Remembers (stateAfter z s xs) k vector w
+      → Remembers s k vector w → Remembers (stateAfter z s xs) k vector w
   remembers-after vector rises m =
       let still : Still (stateAfter z s xs) k (m .session) = still-after means k (m .session) (m .is) xs lasts in
       record {
         session = still .session;
         is = still .is;
         covers = omega (arith, m .covers, rises (m .session) (still .session) (still .later) (w .origin));
-        made = kept-after means xs (w .origin) w (m .made)
+        made = kept-after means xs (w .origin) w (m .made);
       }
 
   pub read-after : Remembers s k (λ q. q .readVector) w → Remembers (stateAfter z s xs) k (λ q. q .readVector) w
@@ -133,53 +133,53 @@ module _ {z : Size} {s : State} {t : List ℕ} (means : Means z s t) (y : Step) 
   chose-here : (guarantee : ℕ → Bool) (q : Session) → s .slot k ≡ opened q → Chose t k guarantee → guarantee (q .guarantees) ≡ true
   chose-here guarantee q e c =
       subst
-        (λ (r : Session). guarantee (r .guarantees) ≡ true)
-        (one-session (ap (λ u. u .slot k) (sym (means-state means)) ∙ c .is) e)
-        (c .chosen)
+      (λ (r : Session). guarantee (r .guarantees) ≡ true)
+      (one-session (ap (λ u. u .slot k) (sym (means-state means)) ∙ c .is) e)
+      (c .chosen)
 
   pub read-served : (guarantee : ℕ → Bool) (vector : Session → ℕ → ℕ)
-    → ((q : Session) (v : ℕ → ℕ) → upToDateToRead (z .n) q v ≡ true → guarantee (q .guarantees) ≡ true → dominates (z .n) v (vector q) ≡ true)
-    → (j : ℕ) → Reads t y k j → Chose t k guarantee → Remembers s k vector w → Stores t j w
+      → ((q : Session) (v : ℕ → ℕ) → upToDateToRead (z .n) q v ≡ true → guarantee (q .guarantees) ≡ true → dominates (z .n) v (vector q) ≡ true)
+      → (j : ℕ) → Reads t y k j → Chose t k guarantee → Remembers s k vector w → Stores t j w
   read-served guarantee vector checked j r c m =
       let d : ReadDone z s k (y .b) (y .c) (rule z s y .answer) (rule z s y .state) = read-did means y k j r in
       let q = d .session in
       stores
-        means
-        j
-        w
-        (subst
-          (λ (i : ℕ). In w (s .log i))
-          (read-at means y k j r)
-          (dominated-stored
-            (means .state)
-            (d .server)
-            (vector q)
-            (checked q (s .vector (d .server)) (d .chosen .passed) (chose-here guarantee q (d .open-slot) c))
-            w
-            (m .made)
-            (subst (λ (p : Session). w .clock ≤ vector p (w .origin)) (one-session (m .is) (d .open-slot)) (m .covers))))
+      means
+      j
+      w
+      (subst
+      (λ (i : ℕ). In w (s .log i))
+      (read-at means y k j r)
+      (dominated-stored
+      (means .state)
+      (d .server)
+      (vector q)
+      (checked q (s .vector (d .server)) (d .chosen .passed) (chose-here guarantee q (d .open-slot) c))
+      w
+      (m .made)
+      (subst (λ (p : Session). w .clock ≤ vector p (w .origin)) (one-session (m .is) (d .open-slot)) (m .covers))))
 
   pub write-served : (guarantee : ℕ → Bool) (vector : Session → ℕ → ℕ)
-    → ((q : Session) (v : ℕ → ℕ) → upToDateToWrite (z .n) q v ≡ true → guarantee (q .guarantees) ≡ true → dominates (z .n) v (vector q) ≡ true)
-    → (w₂ : Write) → Writes t y k w₂ → Chose t k guarantee → Remembers s k vector w → Precedes (rule z s y .state) w w₂
+      → ((q : Session) (v : ℕ → ℕ) → upToDateToWrite (z .n) q v ≡ true → guarantee (q .guarantees) ≡ true → dominates (z .n) v (vector q) ≡ true)
+      → (w₂ : Write) → Writes t y k w₂ → Chose t k guarantee → Remembers s k vector w → Precedes (rule z s y .state) w w₂
   write-served guarantee vector checked w₂ r c m =
       let d : WriteDone z s k (y .b) (y .c) (y .d) (rule z s y .answer) (rule z s y .state) = write-did means y k w₂ r in
       let q = d .session in
       let held : In w (s .log (d .server)) =
-        dominated-stored
-          (means .state)
-          (d .server)
-          (vector q)
-          (checked
-            q
-            (s .vector (d .server))
-            (and-left (upToDateToWrite (z .n) q (s .vector (d .server))) (hasRoom z s (d .server)) (d .chosen .passed))
-            (chose-here guarantee q (d .open-slot) c))
-          w
-          (m .made)
-          (subst (λ (p : Session). w .clock ≤ vector p (w .origin)) (one-session (m .is) (d .open-slot)) (m .covers)) in
+      dominated-stored
+      (means .state)
+      (d .server)
+      (vector q)
+      (checked
+      q
+      (s .vector (d .server))
+      (and-left (upToDateToWrite (z .n) q (s .vector (d .server))) (hasRoom z s (d .server)) (d .chosen .passed))
+      (chose-here guarantee q (d .open-slot) c))
+      w
+      (m .made)
+      (subst (λ (p : Session). w .clock ≤ vector p (w .origin)) (one-session (m .is) (d .open-slot)) (m .covers)) in
       mathlib.Core.Path.subst₂
-        (λ (u : State) (v : Write). Precedes u w v)
-        (sym (d .leaves))
-        (sym (write-is means y k w₂ r))
-        (accepted-precedes (means .state) k q (d .server) (y .b) (y .c) (d .chosen .server) w held)
+      (λ (u : State) (v : Write). Precedes u w v)
+      (sym (d .leaves))
+      (sym (write-is means y k w₂ r))
+      (accepted-precedes (means .state) k q (d .server) (y .b) (y .c) (d .chosen .server) w held)

@@ -37,10 +37,11 @@ schedule-book z limits xs = walk-book (fresh-means z limits) blank fresh-matchin
 -- answers 0 and its answer words are the book's.
 pub run-book : (z : Size) (buffer steps answers : List ℕ) → making z buffer .code ≡ 0 → lengthsFit steps answers ≡ true
     → (run (making z buffer .buffer) steps answers .code ≡ 0)
-      × (run (making z buffer .buffer) steps answers .answers ≡ answerWords (bookAnswers z blank (stepsOf steps)))
+    × (run (making z buffer .buffer) steps answers .answers ≡ answerWords (bookAnswers z blank (stepsOf steps)))
 run-book z buffer steps answers made fit =
     let f = made-fresh z buffer made in
-    let r = run-fits (making z buffer .buffer) steps answers fit in
-    (ap (λ o. o .code) r,
-    ap (λ o. o .answers) r
-      ∙ ap answerWords (ap (λ t. walk t (stepsOf steps) .answers) (f .1) ∙ schedule-book z (f .0) (stepsOf steps)))
+    let r = run-fits (making z buffer .buffer) steps answers fit in (
+      ap (λ o. o .code) r,
+      ap (λ o. o .answers) r
+          ∙ ap answerWords (ap (λ t. walk t (stepsOf steps) .answers) (f .1) ∙ schedule-book z (f .0) (stepsOf steps)),
+    )

@@ -219,6 +219,11 @@ lastOn-some item (ascending-cons {w = v} {ws = vs} head rest) w e =
 
 -- ---- what a server lacks
 
+-- It stands in write order.
+pub lacking-ascending : (v : ℕ → ℕ) {g : List Write} → Ascending g → Ascending (lacking v g)
+unfolding lacking
+lacking-ascending v a = keep-ascending (λ x. ltb (v (x .origin)) (x .clock)) a
+
 pub in-lacking : {w : Write} (v : ℕ → ℕ) (g : List Write) → In w (lacking v g) → In w g
 unfolding lacking
 in-lacking v g h = in-keep (λ x. ltb (v (x .origin)) (x .clock)) g h
@@ -230,10 +235,6 @@ lacking-above {w} v g h = ltb-true (v (w .origin)) (w .clock) (keep-passes (λ x
 pub lacking-in : {w : Write} (v : ℕ → ℕ) {g : List Write} → In w g → v (w .origin) < w .clock → In w (lacking v g)
 unfolding lacking
 lacking-in {w} v h l = keep-in (λ x. ltb (v (x .origin)) (x .clock)) h (lt-ltb (v (w .origin)) (w .clock) l)
-
-pub lacking-ascending : (v : ℕ → ℕ) {g : List Write} → Ascending g → Ascending (lacking v g)
-unfolding lacking
-lacking-ascending v a = keep-ascending (λ x. ltb (v (x .origin)) (x .clock)) a
 
 -- ---- a vector that follows
 

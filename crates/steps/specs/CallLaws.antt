@@ -23,7 +23,8 @@ use Rattle.tables.specs.MeaningLaws.{sound-means, means-sound, means-size, mean
 use Rattle.steps.specs.Step.{Step, Op, asked, Answer, refused, done}
 use Rattle.steps.specs.StepLaws.{asked-inRange}
 use Rattle.steps.specs.Rules.{Outcome, readAnswer, writeAnswer, exchangeAnswer, obeyed, rule}
-use Rattle.steps.specs.Effects.{read-code, Effect, was-refused, was-opened, was-closed, was-read, was-written, was-exchanged, effect}
+use Rattle.steps.specs.CodeLaws.{read-code}
+use Rattle.steps.specs.Effects.{Effect, was-refused, was-opened, was-closed, was-read, was-written, was-exchanged, effect}
 use Rattle.steps.specs.SoundKept.{effect-sound}
 use Rattle.steps.specs.Calls.{Stepped, written, step, Walked, onward, walk}
 
@@ -60,7 +61,7 @@ module _ {z : Size} {s : State} {t : List ℕ} (means : Means z s t) (x : Step) 
       record {
         limits = means .limits;
         state = effect-sound (means .state) (asked-inRange z x) step-effect;
-        words = ap (λ o. o .table) step-means
+        words = ap (λ o. o .table) step-means;
       }
 
 -- Each step keeps a sound table sound.
@@ -87,9 +88,9 @@ step-ended : (t : List ℕ) (x : Step) → sound t ≡ true → Ended (step t x 
 step-ended t x h =
     let means : Means (sizeOf t) (decode (sizeOf t) t) t = sound-means t h in
     subst
-      (λ (r : Answer). Ended r (decode (sizeOf t) t) (rule (sizeOf t) (decode (sizeOf t) t) x .state))
-      (sym (step-answer means x))
-      (effect-ended (step-effect means x))
+    (λ (r : Answer). Ended r (decode (sizeOf t) t) (rule (sizeOf t) (decode (sizeOf t) t) x .state))
+    (sym (step-answer means x))
+    (effect-ended (step-effect means x))
 
 -- A refused step, of any code and on any table, answers its code and four zeros and leaves every word.
 pub step-refused : (t : List ℕ) (x : Step) → (step t x .answer .code ≡ 0 → ⊥) → (step t x .answer ≡ refused (step t x .answer .code)) × (step t x .table ≡ t)
@@ -98,13 +99,26 @@ step-refused t x not-done =
     ⊎-elim (λ h. go h (step-ended t x h)) (λ h. let e : step t x ≡ record { answer = refused 1; table = t } = step-unsound t x h in (ap (λ o. o .answer) e ∙ ap (λ o. refused (o .answer .code)) (sym e), ap (λ o. o .table) e)) (either (sound t))
   where
     go : sound t ≡ true → Ended (step t x .answer) (decode (sizeOf t) t) (rule (sizeOf t) (decode (sizeOf t) t) x .state)
-      → (step t x .answer ≡ refused (step t x .answer .code)) × (step t x .table ≡ t)
+        → (step t x .answer ≡ refused (step t x .answer .code)) × (step t x .table ≡ t)
     go h (accepted e) = absurd (not-done e)
-    go h (rejected code l e same) =
-        (e ∙ ap refused (ap (λ r. r .code) (sym e)),
-        means-next (sound-means t h) x .words ∙ (ap (encode (sizeOf t)) same ∙ sym (sound-means t h .words)))
+    go h (rejected code l e same) = (
+      e ∙ ap refused (ap (λ r. r .code) (sym e)),
+      means-next (sound-means t h) x .words ∙ (ap (encode (sizeOf t)) same ∙ sym (sound-means t h .words)),
+    )
 
 -- ---- steps one after another
+
+-- "It equals its steps one after another": a run of one step is that step, and a run of two lists is the second over what the first left.
+pub walk-one : (t : List ℕ) (x : Step) → walk t (x ∷ []) ≡ record { answers = step t x .answer ∷ []; table = step t x .table }
+unfolding walk onward
+walk-one t x = refl
+
+pub walk-append : (t : List ℕ) (xs ys : List Step)
+    → walk t (xs ++ ys)
+    ≡ record { answers = walk t xs .answers ++ walk (walk t xs .table) ys .answers; table = walk (walk t xs .table) ys .table }
+unfolding walk onward
+walk-append t [] ys = refl
+walk-append t (x ∷ xs) ys = ap (onward (step t x .answer)) (walk-append (step t x .table) xs ys)
 
 pub walk-sound : (t : List ℕ) (xs : List Step) → sound t ≡ true → sound (walk t xs .table) ≡ true
 unfolding walk onward
@@ -125,9 +139,9 @@ unfolding walk onward
 walk-not-1 t [] h r m e = in-nil m
 walk-not-1 t (x ∷ xs) h r m e =
     ⊎-elim
-      (λ q. step-not-1 t x h (ap (λ a. a .code) (sym q) ∙ e))
-      (λ m′. walk-not-1 (step t x .table) xs (step-sound t x h) r m′ e)
-      (in-cons m)
+    (λ q. step-not-1 t x h (ap (λ a. a .code) (sym q) ∙ e))
+    (λ m′. walk-not-1 (step t x .table) xs (step-sound t x h) r m′ e)
+    (in-cons m)
 
 -- No step of a schedule from a fresh table answers 1, and the table stays sound.
 pub schedule-sound : (z : Size) → within z ≡ true → (xs : List Step) → sound (walk (fresh z) xs .table) ≡ true

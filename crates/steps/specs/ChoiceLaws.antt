@@ -12,8 +12,9 @@ use lib.Dec.{eqb}
 use Rattle.words.specs.Lists.{In, here, there, first}
 use Rattle.words.specs.ListLaws.{in-nil, in-cons, in-append-left, in-append-right, Found, first-found, first-none}
 use Rattle.words.specs.TestLaws.{cond-elim, cond-true, cond-false, either, true-not-false, and-left, and-right, and-both, not-true-false}
-use Rattle.tables.specs.State.{Session}
-use Rattle.tables.specs.SoundState.{SoundSession}
+use Rattle.tables.specs.Size.{Size}
+use Rattle.tables.specs.State.{Session, opened, State}
+use Rattle.tables.specs.SoundState.{SoundState, SoundSession, SoundSlot}
 use Rattle.steps.specs.Step.{reachInRange}
 use Rattle.steps.specs.Choice.{reaches, startOf, next, onwards, around, choose}
 
@@ -107,9 +108,12 @@ pub starts-none : (q : Session) → q .lastUsed ≡ 0 → startOf q ≡ 0
 unfolding startOf
 starts-none q e = omega arith
 
-pub start-below : {n : ℕ} {own : ℕ → ℕ} {q : Session} → SoundSession n own q → 1 ≤ n → startOf q < n
+-- An open slot's search starts at a server.
+pub starts : {z : Size} {s : State} → 1 ≤ z .n → SoundState z s → (k : ℕ) (q : Session) → s .slot k ≡ opened q → startOf q < z .n
 unfolding startOf
-start-below c h = omega (arith, c .used)
+starts {z} {s} some-server sound k q e =
+    let c : SoundSession (z .n) (λ j. s .vector j j) q = subst (SoundSlot (z .n) (λ j. s .vector j j)) e (sound .slots k) in
+    omega (arith, c .used)
 
 -- ---- what the search found
 

@@ -10,15 +10,15 @@ use lib.Dec.{eqb}
 use Rattle.words.specs.Lists.{In}
 use Rattle.words.specs.ListLaws.{none-first}
 use Rattle.words.specs.TestLaws.{cond-elim, cond-true, cond-false, not-true-false, true-not-false, and-left, and-right, and-both, either}
+use Rattle.logs.specs.Write.{Write}
 use Rattle.logs.specs.Log.{lastOn}
 use Rattle.tables.specs.Size.{Size}
 use Rattle.tables.specs.State.{Session, Slot, closed, opened, State}
 use Rattle.tables.specs.SoundState.{SoundState}
 use Rattle.steps.specs.Step.{Op, bad, opens, closes, reads, writes, exchanges, Answer, refused, done}
 use Rattle.steps.specs.Choice.{upToDateToRead, upToDateToWrite, reaches, startOf, choose, around}
-use Rattle.steps.specs.ChoiceLaws.{Chosen, choose-some, choose-none, around-below}
+use Rattle.steps.specs.ChoiceLaws.{Chosen, choose-some, choose-none, around-below, starts}
 use Rattle.steps.specs.Rules.{Outcome, refuse, opening, closing, readAnswer, readFrom, reading, newWrite, writeAnswer, writeTo, hasRoom, writing, exchangeAnswer, exchanging, obeyed}
-use Rattle.steps.specs.Effects.{read-code, starts}
 use Rattle.steps.specs.Codes.{OutOfRange, out-of-range, WrongSlot, opens-open, closes-closed, reads-closed, writes-closed, ToItself, to-itself, NoneReachable, reads-none, writes-none, BehindBy, Behind, reads-behind, writes-behind, NoRoom, Full, writes-full, Given}
 
 -- Nothing found where every reachable server fails.
@@ -36,6 +36,12 @@ choose-fails n start reach passes h none-passes =
     true-not-false
     (and-right (reaches reach i) (passes i) e)
     (none-passes i (around-below n start h i m) (and-left (reaches reach i) (passes i) e))))
+
+-- What a read finds, or that it finds nothing, is an answer.
+pub read-code : (i : ℕ) (found : Option Write) → readAnswer i found .code ≡ 0
+unfolding readAnswer
+read-code i none = refl
+read-code i (some w) = refl
 
 module _ (z : Size) (s : State) (some-server : 1 ≤ z .n) (sound : SoundState z s) where
   abbrev Says : Op → Outcome → Type 0
@@ -77,7 +83,7 @@ module _ (z : Size) (s : State) (some-server : 1 ≤ z .n) (sound : SoundState z
       e
       (eqb-false reach 0 t)
       _
-      (choose-none (z .n) (startOf q) reach (λ j. upToDateToRead (z .n) q (s .vector j)) (starts z s some-server sound k q e)))
+      (choose-none (z .n) (startOf q) reach (λ j. upToDateToRead (z .n) q (s .vector j)) (starts some-server sound k q e)))
 
   writeTo-says : (k item value reach : ℕ) (q : Session) → s .slot k ≡ opened q → (reach ≡ 0 → ⊥) → (found roomy : Option ℕ)
       → (found ≡ none → (i : ℕ) → i < z .n → reaches reach i ≡ true → upToDateToWrite (z .n) q (s .vector i) ≡ false)
@@ -107,7 +113,7 @@ module _ (z : Size) (s : State) (some-server : 1 ≤ z .n) (sound : SoundState z
   unfolding writing refuse refused
   writing-says k item value reach closed e = writes-closed e
   writing-says k item value reach (opened q) e =
-      let h = starts z s some-server sound k q e in
+      let h = starts some-server sound k q e in
       cond-elim
       (Says (writes k item value reach))
       (eqb reach 0)
@@ -146,22 +152,22 @@ module _ (z : Size) (s : State) (some-server : 1 ≤ z .n) (sound : SoundState z
 
   -- A read or write goes on with an open slot and a reach that is not 0.
   read-goes : (k item reach : ℕ) (q : Session) → s .slot k ≡ opened q → (reach ≡ 0 → ⊥)
-    → obeyed z s (reads k item reach)
+      → obeyed z s (reads k item reach)
       ≡ readFrom s k item q (choose (z .n) (startOf q) reach (λ i. upToDateToRead (z .n) q (s .vector i)))
   unfolding obeyed reading
   read-goes k item reach q e r = ap (reading z s k item reach) e ∙ cond-false (eqb reach 0) _ _ (ne-eqb reach 0 r)
 
   write-goes : (k item value reach : ℕ) (q : Session) → s .slot k ≡ opened q → (reach ≡ 0 → ⊥)
-    → obeyed z s (writes k item value reach)
+      → obeyed z s (writes k item value reach)
       ≡ writeTo
-        z
-        s
-        k
-        item
-        value
-        q
-        (choose (z .n) (startOf q) reach (λ i. upToDateToWrite (z .n) q (s .vector i)))
-        (choose (z .n) (startOf q) reach (λ i. upToDateToWrite (z .n) q (s .vector i) && hasRoom z s i))
+      z
+      s
+      k
+      item
+      value
+      q
+      (choose (z .n) (startOf q) reach (λ i. upToDateToWrite (z .n) q (s .vector i)))
+      (choose (z .n) (startOf q) reach (λ i. upToDateToWrite (z .n) q (s .vector i) && hasRoom z s i))
   unfolding obeyed writing
   write-goes k item value reach q e r = ap (writing z s k item value reach) e ∙ cond-false (eqb reach 0) _ _ (ne-eqb reach 0 r)
 
@@ -190,22 +196,22 @@ module _ (z : Size) (s : State) (some-server : 1 ≤ z .n) (sound : SoundState z
       ap (λ o. reading z s k item reach o .answer .code) e ∙ ap (λ o. o .answer .code) (cond-true (eqb reach 0) (refuse 5 s) _ (eq-eqb reach 0 r))
   none-code (writes-none {k = k} {item = item} {value = value} {reach = reach} q e r) =
       ap (λ o. writing z s k item value reach o .answer .code) e
-        ∙ ap (λ o. o .answer .code) (cond-true (eqb reach 0) (refuse 5 s) _ (eq-eqb reach 0 r))
+      ∙ ap (λ o. o .answer .code) (cond-true (eqb reach 0) (refuse 5 s) _ (eq-eqb reach 0 r))
 
   behind-code : {o : Op} → Behind z s o → Code o 6
   unfolding readFrom writeTo refuse refused
   behind-code (reads-behind {k = k} {item = item} {reach = reach} b) =
       let q = b .session in
       ap (λ o. o .answer .code) (read-goes k item reach q (b .is) (b .reached))
-        ∙ ap
-          (λ f. readFrom s k item q f .answer .code)
-          (choose-fails (z .n) (startOf q) reach (λ i. upToDateToRead (z .n) q (s .vector i)) (starts z s some-server sound k q (b .is)) (b .stale))
+      ∙ ap
+      (λ f. readFrom s k item q f .answer .code)
+      (choose-fails (z .n) (startOf q) reach (λ i. upToDateToRead (z .n) q (s .vector i)) (starts some-server sound k q (b .is)) (b .stale))
   behind-code (writes-behind {k = k} {item = item} {value = value} {reach = reach} b) =
       let q = b .session in
       ap (λ o. o .answer .code) (write-goes k item value reach q (b .is) (b .reached))
-        ∙ ap
-          (λ f. writeTo z s k item value q f (choose (z .n) (startOf q) reach (λ i. upToDateToWrite (z .n) q (s .vector i) && hasRoom z s i)) .answer .code)
-          (choose-fails (z .n) (startOf q) reach (λ i. upToDateToWrite (z .n) q (s .vector i)) (starts z s some-server sound k q (b .is)) (b .stale))
+      ∙ ap
+      (λ f. writeTo z s k item value q f (choose (z .n) (startOf q) reach (λ i. upToDateToWrite (z .n) q (s .vector i) && hasRoom z s i)) .answer .code)
+      (choose-fails (z .n) (startOf q) reach (λ i. upToDateToWrite (z .n) q (s .vector i)) (starts some-server sound k q (b .is)) (b .stale))
 
   -- Up to date somewhere and with room nowhere: 7.
   found : (k item value : ℕ) (q : Session) (f : Option ℕ) → (f ≡ none → ⊥) → writeTo z s k item value q f none .answer .code ≡ 7
@@ -216,24 +222,24 @@ module _ (z : Size) (s : State) (some-server : 1 ≤ z .n) (sound : SoundState z
   full-code : {o : Op} → Full z s o → Code o 7
   full-code (writes-full {k = k} {item = item} {value = value} {reach = reach} b) =
       let q = b .session in
-      let h = starts z s some-server sound k q (b .is) in
+      let h = starts some-server sound k q (b .is) in
       ap (λ o. o .answer .code) (write-goes k item value reach q (b .is) (b .reached))
-        ∙ (ap
-          (λ f. writeTo z s k item value q (choose (z .n) (startOf q) reach (λ i. upToDateToWrite (z .n) q (s .vector i))) f .answer .code)
-          (choose-fails
-            (z .n)
-            (startOf q)
-            reach
-            (λ i. upToDateToWrite (z .n) q (s .vector i) && hasRoom z s i)
-            h
-            (λ i l r.
-              not-true-false
-                (upToDateToWrite (z .n) q (s .vector i) && hasRoom z s i)
-                (λ t.
-                  true-not-false
-                    (and-right (upToDateToWrite (z .n) q (s .vector i)) (hasRoom z s i) t)
-                    (b .full i l r (and-left (upToDateToWrite (z .n) q (s .vector i)) (hasRoom z s i) t)))))
-          ∙ found k item value q _ (λ e. true-not-false (b .upToDate) (choose-none (z .n) (startOf q) reach (λ i. upToDateToWrite (z .n) q (s .vector i)) h e (b .server) (b .below) (b .reachable))))
+      ∙ (ap
+      (λ f. writeTo z s k item value q (choose (z .n) (startOf q) reach (λ i. upToDateToWrite (z .n) q (s .vector i))) f .answer .code)
+      (choose-fails
+      (z .n)
+      (startOf q)
+      reach
+      (λ i. upToDateToWrite (z .n) q (s .vector i) && hasRoom z s i)
+      h
+      (λ i l r.
+      not-true-false
+      (upToDateToWrite (z .n) q (s .vector i) && hasRoom z s i)
+      (λ t.
+      true-not-false
+      (and-right (upToDateToWrite (z .n) q (s .vector i)) (hasRoom z s i) t)
+      (b .full i l r (and-left (upToDateToWrite (z .n) q (s .vector i)) (hasRoom z s i) t)))))
+      ∙ found k item value q _ (λ e. true-not-false (b .upToDate) (choose-none (z .n) (startOf q) reach (λ i. upToDateToWrite (z .n) q (s .vector i)) h e (b .server) (b .below) (b .reachable))))
 
   -- ---- both
 

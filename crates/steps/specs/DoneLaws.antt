@@ -32,7 +32,7 @@ read-done (was-read q i o c) e = record { session = q; open-slot = o; server = i
 
 module _ {z : Size} {s : State} (sound : SoundState z s) where
   pub write-done : {k item value reach : ℕ} {r : Answer} {after : State} → Effect z s (writes k item value reach) r after → r .code ≡ 0
-    → WriteDone z s k item value reach r after
+      → WriteDone z s k item value reach r after
   unfolding accepted withSlot withVector withLog
   write-done (was-refused code h) e = refused-not-0 code h e
   write-done (was-written {item = item} {value = value} q i o c) e =
@@ -44,21 +44,23 @@ module _ {z : Size} {s : State} (sound : SoundState z s) where
         answered = refl;
         last = new-last sound i item value (c .server);
         stored = upd-same (s .log) i (s .log i ++ (newWrite z s i item value ∷ [])) i refl;
-        leaves = refl
+        leaves = refl;
       }
 
   -- By vectors or by membership, a server lacks the same.
   pub lacking-exactly : (source target : ℕ) (w : Write)
-    → In w (lacking (s .vector target) (s .log source)) ↔ (In w (s .log source) × (In w (s .log target) → ⊥))
-  lacking-exactly source target w =
-      (λ m.
-        (in-lacking (s .vector target) (s .log source) m,
-        λ h. omega (arith, lacking-above (s .vector target) (s .log source) m, sound .covered target w h)),
-      λ h.
+      → In w (lacking (s .vector target) (s .log source)) ↔ (In w (s .log source) × (In w (s .log target) → ⊥))
+  lacking-exactly source target w = (
+    λ m. (
+      in-lacking (s .vector target) (s .log source) m,
+      λ h. omega (arith, lacking-above (s .vector target) (s .log source) m, sound .covered target w h),
+    ),
+    λ h.
         ⊎-elim
-          (λ l. lacking-in (s .vector target) (h .0) l)
-          (λ l. absurd (h .1 (sound .complete target w (sound .home source w (h .0)) l)))
-          (lt-or-le (s .vector target (w .origin)) (w .clock)))
+        (λ l. lacking-in (s .vector target) (h .0) l)
+        (λ l. absurd (h .1 (sound .complete target w (sound .home source w (h .0)) l)))
+        (lt-or-le (s .vector target (w .origin)) (w .clock)),
+  )
 
   module _ (source target most : ℕ) where
     abbrev ws : List Write
@@ -69,7 +71,7 @@ module _ {z : Size} {s : State} (sound : SoundState z s) where
     log-then = upd-same (s .log) target (insertAll ws (s .log target)) target refl
 
     exchanged : (source ≡ target → ⊥)
-      → ExchangeDone z s source target most (exchangeAnswer source target (goingOver z s source target most)) (received s target ws)
+        → ExchangeDone z s source target most (exchangeAnswer source target (goingOver z s source target most)) (received s target ws)
     unfolding goingOver sent
     exchanged e =
         record {
@@ -83,22 +85,23 @@ module _ {z : Size} {s : State} (sound : SoundState z s) where
           first = refl;
           answered = refl;
           rises =
-            ap length log-then ∙ omega (arith, length-insertAll ws (s .log target), length-sent sound source target most);
+              ap length log-then ∙ omega (arith, length-insertAll ws (s .log target), length-sent sound source target most);
           holds =
-            λ w.
-            (λ m. in-insertAll ws (s .log target) (subst (λ (g : List Write). In w g) log-then m),
-            λ m.
-              subst
-                (λ (g : List Write). In w g)
-                (sym log-then)
-                (⊎-elim (λ m′. insertAll-new ws (s .log target) m′) (λ m′. insertAll-old ws m′) m));
+              λ w. (
+                λ m. in-insertAll ws (s .log target) (subst (λ (g : List Write). In w g) log-then m),
+                λ m.
+                    subst
+                    (λ (g : List Write). In w g)
+                    (sym log-then)
+                    (⊎-elim (λ m′. insertAll-new ws (s .log target) m′) (λ m′. insertAll-old ws m′) m),
+              );
           complete =
-            λ w x m h b.
-            subst (λ (g : List Write). In x g) (sym log-then) (sent-after sound source target most w x m h b);
-          leaves = refl
+              λ w x m h b.
+              subst (λ (g : List Write). In x g) (sym log-then) (sent-after sound source target most w x m h b);
+          leaves = refl;
         }
 
   pub exchange-done : {source target most : ℕ} {r : Answer} {after : State} → Effect z s (exchanges source target most) r after → r .code ≡ 0
-    → ExchangeDone z s source target most r after
+      → ExchangeDone z s source target most r after
   exchange-done (was-refused code h) e = refused-not-0 code h e
   exchange-done (was-exchanged {source = source} {target = target} {most = most} p) e = exchanged source target most p

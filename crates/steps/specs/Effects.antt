@@ -13,10 +13,10 @@ use Rattle.logs.specs.Write.{Write}
 use Rattle.logs.specs.Log.{lastOn}
 use Rattle.tables.specs.Size.{Size}
 use Rattle.tables.specs.State.{Session, Slot, closed, opened, State, withSlot}
-use Rattle.tables.specs.SoundState.{SoundState, SoundSession, SoundSlot}
+use Rattle.tables.specs.SoundState.{SoundState}
 use Rattle.steps.specs.Step.{Op, bad, opens, closes, reads, writes, exchanges, Answer, refused, done}
 use Rattle.steps.specs.Choice.{upToDateToRead, upToDateToWrite, startOf, choose}
-use Rattle.steps.specs.ChoiceLaws.{Chosen, choose-some, start-below}
+use Rattle.steps.specs.ChoiceLaws.{Chosen, choose-some, starts}
 use Rattle.steps.specs.Rules.{Outcome, refuse, newSession, opening, closing, readAnswer, afterRead, readFrom, reading, newWrite, accepted, writeAnswer, writeTo, hasRoom, writing, goingOver, sent, received, exchangeAnswer, exchanging, obeyed}
 
 -- The server that a read, or a write, of the session is sent to.
@@ -42,12 +42,6 @@ pub data Effect (z : Size) (s : State) : Op → Answer → State → Type 0 wher
       (exchangeAnswer source target (goingOver z s source target most))
       (received s target (sent z s source target most))
 
--- What a read finds, or that it finds nothing, is an answer.
-pub read-code : (i : ℕ) (found : Option Write) → readAnswer i found .code ≡ 0
-unfolding readAnswer
-read-code i none = refl
-read-code i (some w) = refl
-
 module _ (z : Size) (s : State) (some-server : 1 ≤ z .n) (sound : SoundState z s) where
   abbrev Done : Op → Outcome → Type 0
   Done o r = Effect z s o (r .answer) (r .state)
@@ -55,10 +49,6 @@ module _ (z : Size) (s : State) (some-server : 1 ≤ z .n) (sound : SoundState z
   refusal : (o : Op) (code : ℕ) → 2 ≤ code → Done o (refuse code s)
   unfolding refuse
   refusal o code h = was-refused code h
-
-  -- An open slot's session is sound, so that its search starts at a server.
-  pub starts : (k : ℕ) (q : Session) → s .slot k ≡ opened q → startOf q < z .n
-  starts k q e = start-below (subst (SoundSlot (z .n) (λ j. s .vector j j)) e (sound .slots k)) some-server
 
   opening-effect : (k g : ℕ) (o : Slot) → s .slot k ≡ o → Done (opens k g) (opening s k g o)
   unfolding opening
@@ -86,7 +76,7 @@ module _ (z : Size) (s : State) (some-server : 1 ≤ z .n) (sound : SoundState z
       (eqb reach 0)
       (λ t. refusal (reads k item reach) _ (omega arith))
       (λ t.
-      readFrom-effect k item reach q e _ (λ i f. choose-some (z .n) (startOf q) reach (λ j. upToDateToRead (z .n) q (s .vector j)) i (starts k q e) f))
+      readFrom-effect k item reach q e _ (λ i f. choose-some (z .n) (startOf q) reach (λ j. upToDateToRead (z .n) q (s .vector j)) i (starts some-server sound k q e) f))
 
   writeTo-effect : (k item value reach : ℕ) (q : Session) → s .slot k ≡ opened q → (found roomy : Option ℕ)
       → ((i : ℕ) → roomy ≡ some i → ChosenToWrite z s q reach i)
@@ -115,7 +105,7 @@ module _ (z : Size) (s : State) (some-server : 1 ≤ z .n) (sound : SoundState z
       _
       _
       (λ i f.
-      choose-some (z .n) (startOf q) reach (λ j. upToDateToWrite (z .n) q (s .vector j) && hasRoom z s j) i (starts k q e) f))
+      choose-some (z .n) (startOf q) reach (λ j. upToDateToWrite (z .n) q (s .vector j) && hasRoom z s j) i (starts some-server sound k q e) f))
 
   exchanging-effect : (source target most : ℕ) → Done (exchanges source target most) (exchanging z s source target most)
   unfolding exchanging

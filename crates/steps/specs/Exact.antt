@@ -38,16 +38,17 @@ unsound-exactly t x = (λ e. not-true-false (sound t) (λ h. step-not-1 t x h e)
 pub given-exactly : (t : List ℕ) (x : Step) (c : ℕ) → 2 ≤ c
     → (step t x .answer .code ≡ c) ↔ ((sound t ≡ true) × Given (sizeOf t) (decode (sizeOf t) t) (asked (sizeOf t) x) c)
 unfolding refused rule
-given-exactly t x c l =
-    (λ e.
+given-exactly t x c l = (
+  λ e.
       ⊎-elim
-        (λ h. (h, of t x h c l .0 (ap (λ r. r .code) (sym (step-answer (sound-means t h) x)) ∙ e)))
-        (λ h. absurd (omega (arith, ap (λ o. o .answer .code) (step-unsound t x h))))
-        (either (sound t)),
-    λ g. ap (λ r. r .code) (step-answer (sound-means t (g .0)) x) ∙ of t x (g .0) c l .1 (g .1))
+      (λ h. (h, of t x h c l .0 (ap (λ r. r .code) (sym (step-answer (sound-means t h) x)) ∙ e)))
+      (λ h. absurd (omega (arith, ap (λ o. o .answer .code) (step-unsound t x h))))
+      (either (sound t)),
+  λ g. ap (λ r. r .code) (step-answer (sound-means t (g .0)) x) ∙ of t x (g .0) c l .1 (g .1),
+)
   where
     of : (t : List ℕ) (x : Step) → sound t ≡ true → (c : ℕ) → 2 ≤ c
-      → (rule (sizeOf t) (decode (sizeOf t) t) x .answer .code ≡ c) ↔ Given (sizeOf t) (decode (sizeOf t) t) (asked (sizeOf t) x) c
+        → (rule (sizeOf t) (decode (sizeOf t) t) x .answer .code ≡ c) ↔ Given (sizeOf t) (decode (sizeOf t) t) (asked (sizeOf t) x) c
     of t x h c l =
         let means : Means (sizeOf t) (decode (sizeOf t) t) t = sound-means t h in
         code-exactly (sizeOf t) (decode (sizeOf t) t) (within-server (sizeOf t) (means .limits)) (means .state) (asked (sizeOf t) x) c l
@@ -72,41 +73,45 @@ module _ (t : List ℕ) (x : Step) (is-sound : sound t ≡ true) (k reach : ℕ)
   abbrev pub NonePasses : (ℕ → Session → (ℕ → ℕ) → Bool) → Type 0
   NonePasses upToDate =
       Reachable (sizeOf t .n) reach
-        × ((i : ℕ) → i < sizeOf t .n → reaches reach i ≡ true → upToDate (sizeOf t .n) q (decode (sizeOf t) t .vector i) ≡ false)
+      × ((i : ℕ) → i < sizeOf t .n → reaches reach i ≡ true → upToDate (sizeOf t .n) q (decode (sizeOf t) t .vector i) ≡ false)
 
   none-passes : (upToDate : ℕ → Session → (ℕ → ℕ) → Bool) → reachInRange (sizeOf t .n) reach ≡ true
-    → BehindBy (sizeOf t) (decode (sizeOf t) t) upToDate k reach ↔ NonePasses upToDate
-  none-passes upToDate range =
-      (λ b.
-        let same : b .session ≡ q = one-session (b .is) in
-        (reach-some (sizeOf t .n) reach range (b .reached),
-        λ i l r. subst (λ (p : Session). upToDate (sizeOf t .n) p (decode (sizeOf t) t .vector i) ≡ false) same (b .stale i l r)),
-      λ n.
+      → BehindBy (sizeOf t) (decode (sizeOf t) t) upToDate k reach ↔ NonePasses upToDate
+  none-passes upToDate range = (
+    λ b.
+        let same : b .session ≡ q = one-session (b .is) in (
+          reach-some (sizeOf t .n) reach range (b .reached),
+          λ i l r. subst (λ (p : Session). upToDate (sizeOf t .n) p (decode (sizeOf t) t .vector i) ≡ false) same (b .stale i l r),
+        ),
+    λ n.
         record {
           session = q;
           is = is-open;
           reached = λ e. reach-none (sizeOf t .n) (subst (Reachable (sizeOf t .n)) e (n .0));
-          stale = n .1
-        })
+          stale = n .1;
+        },
+  )
     where
       one-session : {p : Session} → decode (sizeOf t) t .slot k ≡ opened p → p ≡ q
       one-session e = cc
 
   pub read-behind-exactly : (item : ℕ) → asked (sizeOf t) x ≡ reads k item reach → (step t x .answer .code ≡ 6) ↔ NonePasses upToDateToRead
   read-behind-exactly item e =
-      let range = subst (InRange (sizeOf t)) e (asked-inRange (sizeOf t) x) in
-      (λ c. none-passes upToDateToRead (range .2) .0 (unread (subst (Behind (sizeOf t) (decode (sizeOf t) t)) e (behind-exactly t x .0 c .1))),
-      λ n. behind-exactly t x .1 (is-sound, subst (Behind (sizeOf t) (decode (sizeOf t) t)) (sym e) (reads-behind (none-passes upToDateToRead (range .2) .1 n))))
+      let range = subst (InRange (sizeOf t)) e (asked-inRange (sizeOf t) x) in (
+        λ c. none-passes upToDateToRead (range .2) .0 (unread (subst (Behind (sizeOf t) (decode (sizeOf t) t)) e (behind-exactly t x .0 c .1))),
+        λ n. behind-exactly t x .1 (is-sound, subst (Behind (sizeOf t) (decode (sizeOf t) t)) (sym e) (reads-behind (none-passes upToDateToRead (range .2) .1 n))),
+      )
     where
       unread : Behind (sizeOf t) (decode (sizeOf t) t) (reads k item reach) → BehindBy (sizeOf t) (decode (sizeOf t) t) upToDateToRead k reach
       unread (reads-behind b) = b
 
   pub write-behind-exactly : (item value : ℕ) → asked (sizeOf t) x ≡ writes k item value reach
-    → (step t x .answer .code ≡ 6) ↔ NonePasses upToDateToWrite
+      → (step t x .answer .code ≡ 6) ↔ NonePasses upToDateToWrite
   write-behind-exactly item value e =
-      let range = subst (InRange (sizeOf t)) e (asked-inRange (sizeOf t) x) in
-      (λ c. none-passes upToDateToWrite (range .2) .0 (unwritten (subst (Behind (sizeOf t) (decode (sizeOf t) t)) e (behind-exactly t x .0 c .1))),
-      λ n. behind-exactly t x .1 (is-sound, subst (Behind (sizeOf t) (decode (sizeOf t) t)) (sym e) (writes-behind (none-passes upToDateToWrite (range .2) .1 n))))
+      let range = subst (InRange (sizeOf t)) e (asked-inRange (sizeOf t) x) in (
+        λ c. none-passes upToDateToWrite (range .2) .0 (unwritten (subst (Behind (sizeOf t) (decode (sizeOf t) t)) e (behind-exactly t x .0 c .1))),
+        λ n. behind-exactly t x .1 (is-sound, subst (Behind (sizeOf t) (decode (sizeOf t) t)) (sym e) (writes-behind (none-passes upToDateToWrite (range .2) .1 n))),
+      )
     where
       unwritten : Behind (sizeOf t) (decode (sizeOf t) t) (writes k item value reach) → BehindBy (sizeOf t) (decode (sizeOf t) t) upToDateToWrite k reach
       unwritten (writes-behind b) = b
@@ -128,20 +133,20 @@ module _ (t : List ℕ) (x : Step) (is-sound : sound t ≡ true) (done : step t 
   happened o e =
       let means : Means z s t = sound-means t is-sound in
       mathlib.Core.Path.subst₂
-        (λ (r : Answer) (u : State). Effect z s o r u)
-        (sym (step-answer means x))
-        (sym (means-state (means-next means x)))
-        (subst (λ (p : Op). Effect z s p (rule z s x .answer) (rule z s x .state)) e (step-effect means x))
+      (λ (r : Answer) (u : State). Effect z s o r u)
+      (sym (step-answer means x))
+      (sym (means-state (means-next means x)))
+      (subst (λ (p : Op). Effect z s p (rule z s x .answer) (rule z s x .state)) e (step-effect means x))
 
   pub read-exactly : (k item reach : ℕ) → asked z x ≡ reads k item reach → ReadDone z s k item reach (step t x .answer) after
   read-exactly k item reach e = read-done (happened (reads k item reach) e) done
 
   pub write-exactly : (k item value reach : ℕ) → asked z x ≡ writes k item value reach
-    → WriteDone z s k item value reach (step t x .answer) after
+      → WriteDone z s k item value reach (step t x .answer) after
   write-exactly k item value reach e = write-done (sound-means t is-sound .state) (happened (writes k item value reach) e) done
 
   pub exchange-exactly : (source target most : ℕ) → asked z x ≡ exchanges source target most
-    → ExchangeDone z s source target most (step t x .answer) after
+      → ExchangeDone z s source target most (step t x .answer) after
   exchange-exactly source target most e = exchange-done (sound-means t is-sound .state) (happened (exchanges source target most) e) done
 
 -- 002, section 5: a server's version vector "precisely specifies the set of Writes in its database". After every step on a sound table,

@@ -67,13 +67,13 @@ module _ (s : State) (k : ℕ) (q : Session) (i : ℕ) (w : Write) where
   unfolding accepted withSlot withVector withLog
   accepted-others h j e =
       Rattle.words.specs.ListLaws.upd-elim
-        (λ (v : ℕ → ℕ). v j ≡ s .vector h j)
-        (s .vector)
-        i
-        (upd (s .vector i) i (w .clock))
-        h
-        (λ d. upd-other (s .vector i) i (w .clock) j e ∙ ap (λ m. s .vector m j) (mathlib.Core.Path.sym d))
-        (λ d. refl)
+      (λ (v : ℕ → ℕ). v j ≡ s .vector h j)
+      (s .vector)
+      i
+      (upd (s .vector i) i (w .clock))
+      h
+      (λ d. upd-other (s .vector i) i (w .clock) j e ∙ ap (λ m. s .vector m j) (mathlib.Core.Path.sym d))
+      (λ d. refl)
 
 -- 01: "Open sets guarantees, zeros the rest."
 module _ (g : ℕ) where

@@ -119,6 +119,11 @@ module _ {z : Size} {s : State} (sound : SoundState z s) (i item value : ℕ) (s
 -- ---- an exchange
 
 module _ {z : Size} {s : State} (sound : SoundState z s) (source target most : ℕ) where
+  -- What goes over goes in write order.
+  pub sent-ascending : Ascending (sent z s source target most)
+  unfolding sent
+  sent-ascending = take-ascending (goingOver z s source target most) (lacking-ascending (s .vector target) (sound .ascending source))
+
   -- What goes over is lacking.
   pub sent-lacks : (w : Write) → In w (sent z s source target most) → In w (lacking (s .vector target) (s .log source))
   unfolding sent
@@ -129,10 +134,6 @@ module _ {z : Size} {s : State} (sound : SoundState z s) (source target most : �
 
   pub sent-above : (w : Write) → In w (sent z s source target most) → s .vector target (w .origin) < w .clock
   sent-above w m = lacking-above (s .vector target) (s .log source) (sent-lacks w m)
-
-  pub sent-ascending : Ascending (sent z s source target most)
-  unfolding sent
-  sent-ascending = take-ascending (goingOver z s source target most) (lacking-ascending (s .vector target) (sound .ascending source))
 
   -- k is the number that goes over.
   pub length-sent : length (sent z s source target most) ≡ goingOver z s source target most

@@ -4,11 +4,11 @@ pub mod Choice
 pub mod ChoiceLaws
 pub mod Rules
 pub mod Figure1
+pub mod Codes
+pub mod CodeLaws
 pub mod Effects
 pub mod Grown
 pub mod SoundKept
-pub mod Codes
-pub mod CodeLaws
 pub mod Calls
 pub mod CallLaws
 pub mod RunLaws

@@ -24,14 +24,14 @@ use Rattle.steps.specs.CallLaws.{step-unsound, means-next, walk-unsound}
 pub step-length : (t : List ℕ) (x : Step) → length (step t x .table) ≡ length t
 step-length t x =
     ⊎-elim
-      (λ h.
-        let was = sound-means t h in
-        let is = means-next was x in
-        ap length (is .words)
-          ∙ (length-encode (sizeOf t) _ (λ i l. is .state .room i)
-            ∙ sym (ap length (was .words) ∙ length-encode (sizeOf t) _ (λ i l. was .state .room i))))
-      (λ h. ap (λ o. length (o .table)) (step-unsound t x h))
-      (either (sound t))
+    (λ h.
+    let was = sound-means t h in
+    let is = means-next was x in
+    ap length (is .words)
+    ∙ (length-encode (sizeOf t) _ (λ i l. is .state .room i)
+    ∙ sym (ap length (was .words) ∙ length-encode (sizeOf t) _ (λ i l. was .state .room i))))
+    (λ h. ap (λ o. length (o .table)) (step-unsound t x h))
+    (either (sound t))
 
 pub walk-length : (t : List ℕ) (xs : List Step) → length (walk t xs .table) ≡ length t
 unfolding walk onward
@@ -76,7 +76,7 @@ length-stepWords (x ∷ xs) = omega (arith, length-stepWords xs)
 
 module _ (t steps answers : List ℕ) where
   pub run-fits : lengthsFit steps answers ≡ true
-    → run t steps answers
+      → run t steps answers
       ≡ record { code = 0; table = walk t (stepsOf steps) .table; answers = answerWords (walk t (stepsOf steps) .answers) }
   unfolding run
   run-fits h = cond-true (lengthsFit steps answers) _ _ h
@@ -87,37 +87,40 @@ module _ (t steps answers : List ℕ) where
 
   -- 8 exactly if the lengths do not fit; else 0, over any table.
   pub run-8-exactly : (run t steps answers .code ≡ 8) ↔ (lengthsFit steps answers ≡ false)
-  run-8-exactly =
-      (λ e. not-true-false (lengthsFit steps answers) (λ h. absurd (omega (arith, ap (λ r. r .code) (run-fits h)))),
-      λ h. ap (λ r. r .code) (run-misfits h))
+  run-8-exactly = (
+    λ e. not-true-false (lengthsFit steps answers) (λ h. absurd (omega (arith, ap (λ r. r .code) (run-fits h)))),
+    λ h. ap (λ r. r .code) (run-misfits h),
+  )
 
   -- The lengths of table and answer buffer stay.
   pub run-lengths : (length (run t steps answers .table) ≡ length t) × (length (run t steps answers .answers) ≡ length answers)
   unfolding lengthsFit
   run-lengths =
       ⊎-elim
-        (λ h.
-          let r = run-fits h in
-          let same = eqb-true (length steps) (length answers) (and-left (eqb (length steps) (length answers)) (eqb (length steps % 5) 0) h) in
-          let five = eqb-true (length steps % 5) 0 (and-right (eqb (length steps) (length answers)) (eqb (length steps % 5) 0) h) in
-          (ap (λ o. length (o .table)) r ∙ walk-length t (stepsOf steps),
-          ap (λ o. length (o .answers)) r
-            ∙ omega
-              (arith,
+      (λ h.
+      let r = run-fits h in
+      let same = eqb-true (length steps) (length answers) (and-left (eqb (length steps) (length answers)) (eqb (length steps % 5) 0) h) in
+      let five = eqb-true (length steps % 5) 0 (and-right (eqb (length steps) (length answers)) (eqb (length steps % 5) 0) h) in (
+        ap (λ o. length (o .table)) r ∙ walk-length t (stepsOf steps),
+        ap (λ o. length (o .answers)) r
+            ∙ omega (
+              arith,
               length-answerWords (walk t (stepsOf steps) .answers),
               walk-answers t (stepsOf steps),
               length-stepWords (stepsOf steps),
               ap length (stepWords-stepsOf steps five),
-              same)))
-        (λ h. (ap (λ o. length (o .table)) (run-misfits h), ap (λ o. length (o .answers)) (run-misfits h)))
-        (either (lengthsFit steps answers))
+              same,
+            ),
+      ))
+      (λ h. (ap (λ o. length (o .table)) (run-misfits h), ap (λ o. length (o .answers)) (run-misfits h)))
+      (either (lengthsFit steps answers))
 
 -- "With fitting lengths the run itself answers 0, over an unsound table too, where each step answers 1."
 pub run-unsound : (t steps answers : List ℕ) → sound t ≡ false → lengthsFit steps answers ≡ true
     → run t steps answers ≡ record { code = 0; table = t; answers = answerWords (replicate (length (stepsOf steps)) (refused 1)) }
 run-unsound t steps answers h fit =
     run-fits t steps answers fit
-      ∙ ap (λ (w : Walked). record { code = 0; table = w .table; answers = answerWords (w .answers) }) (walk-unsound t (stepsOf steps) h)
+    ∙ ap (λ (w : Walked). record { code = 0; table = w .table; answers = answerWords (w .answers) }) (walk-unsound t (stepsOf steps) h)
 
 -- "An empty list with an empty answer buffer answers 0", and alters nothing.
 pub run-empty : (t : List ℕ) → run t [] [] ≡ record { code = 0; table = t; answers = [] }

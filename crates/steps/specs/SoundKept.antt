@@ -31,7 +31,7 @@ new-sound n own g h =
       chosen = omega (arith, new-chosen g);
       used = omega (arith, new-unused g);
       readBelow = λ j. omega (arith, new-reads g j);
-      writeBelow = λ j. omega (arith, new-writes g j)
+      writeBelow = λ j. omega (arith, new-writes g j);
     }
 
 read-sound : (n : ℕ) (own : ℕ → ℕ) (q : Session) → SoundSession n own q → (i : ℕ) (v : ℕ → ℕ) → i < n → ((j : ℕ) → v j ≤ own j) → SoundSession n own (afterRead q i v)
@@ -40,7 +40,7 @@ read-sound n own q c i v h below =
       chosen = omega (arith, read-chosen q i v, c .chosen);
       used = omega (arith, read-uses q i v);
       readBelow = λ j. omega (arith, read-raises q i v j, c .readBelow j, below j);
-      writeBelow = λ j. omega (arith, read-leaves q i v j, c .writeBelow j)
+      writeBelow = λ j. omega (arith, read-leaves q i v j, c .writeBelow j);
     }
 
 write-sound : (n : ℕ) (own : ℕ → ℕ) (q : Session) → SoundSession n own q → (i clock : ℕ) → i < n → clock ≤ own i → SoundSession n own (afterWrite q i clock)
@@ -50,11 +50,11 @@ write-sound n own q c i clock h below =
       used = omega (arith, write-uses q i clock);
       readBelow = λ j. omega (arith, write-reads q i clock j, c .readBelow j);
       writeBelow =
-        λ j.
-        ⊎-elim
+          λ j.
+          ⊎-elim
           (λ e. omega (arith, write-sets q i clock j (eqb-true j i e), ap own (eqb-true j i e)))
           (λ e. omega (arith, write-leaves q i clock j (eqb-false j i e), c .writeBelow j))
-          (either (eqb j i))
+          (either (eqb j i));
     }
 
 -- ---- the six effects

@@ -51,18 +51,18 @@ exchangeInRange z x = ltb (x .a) (z .n) && (ltb (x .b) (z .n) && eqb (x .d) 0)
 unfoldable pub ofKind : Size → Step → ℕ → Op
 ofKind z x kind =
     cond
-      (eqb kind 1)
-      (cond (openInRange z x) (opens (x .a) (x .b)) bad)
-      (cond
-        (eqb kind 2)
-        (cond (closeInRange z x) (closes (x .a)) bad)
-        (cond
-          (eqb kind 3)
-          (cond (readInRange z x) (reads (x .a) (x .b) (x .c)) bad)
-          (cond
-            (eqb kind 4)
-            (cond (writeInRange z x) (writes (x .a) (x .b) (x .c) (x .d)) bad)
-            (cond (eqb kind 5) (cond (exchangeInRange z x) (exchanges (x .a) (x .b) (x .c)) bad) bad))))
+    (eqb kind 1)
+    (cond (openInRange z x) (opens (x .a) (x .b)) bad)
+    (cond
+    (eqb kind 2)
+    (cond (closeInRange z x) (closes (x .a)) bad)
+    (cond
+    (eqb kind 3)
+    (cond (readInRange z x) (reads (x .a) (x .b) (x .c)) bad)
+    (cond
+    (eqb kind 4)
+    (cond (writeInRange z x) (writes (x .a) (x .b) (x .c) (x .d)) bad)
+    (cond (eqb kind 5) (cond (exchangeInRange z x) (exchanges (x .a) (x .b) (x .c)) bad) bad))))
 
 unfoldable pub asked : Size → Step → Op
 asked z x = ofKind z x (x .kind)

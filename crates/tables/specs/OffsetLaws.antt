@@ -25,8 +25,8 @@ module _ (z : Size) (s : State) (room : Room z s) where
   place-encode i e c h l m =
       let at : placeAt z i e + c ≡ logAt z i + (e * width + c) = omega arith in
       ap (λ k. getD (encode z s) k 0) at
-        ∙ (sym (getD-part (encode z s) (logAt z i) (z .l * width) (e * width + c) 0 (cell l m))
-          ∙ ap (λ (ws : List ℕ). getD ws (e * width + c) 0) (logPart-encode z s room i h))
+      ∙ (sym (getD-part (encode z s) (logAt z i) (z .l * width) (e * width + c) 0 (cell l m))
+      ∙ ap (λ (ws : List ℕ). getD ws (e * width + c) 0) (logPart-encode z s room i h))
 
   -- Word c of slot k.
   slot-word : (k c : ℕ) → k < z .p → c < 2 * z .n + 2 → getD (encode z s) (slotAt z k + c) 0 ≡ getD (slotWords (z .n) (s .slot k)) c 0
@@ -40,7 +40,7 @@ module _ (z : Size) (s : State) (room : Room z s) where
   closed-encode k h e =
       let at : guaranteesAt z k ≡ slotAt z k + 0 = omega arith in
       ap (λ m. getD (encode z s) m 0) at
-        ∙ (slot-word k 0 h (omega arith) ∙ (ap (λ o. getD (slotWords (z .n) o) 0 0) e ∙ getD-replicate (2 * z .n + 2) 0 0 0 (omega arith)))
+      ∙ (slot-word k 0 h (omega arith) ∙ (ap (λ o. getD (slotWords (z .n) o) 0 0) e ∙ getD-replicate (2 * z .n + 2) 0 0 0 (omega arith)))
 
   module _ (k : ℕ) (h : k < z .p) (q : Session) (e : s .slot k ≡ opened q) where
     open-word : (c : ℕ) → c < 2 * z .n + 2 → getD (encode z s) (slotAt z k + c) 0 ≡ getD (slotWords (z .n) (opened q)) c 0

@@ -14,13 +14,6 @@ use Rattle.words.specs.TestLaws.{zeros-are}
 use Rattle.tables.specs.Layout.{slotWords, sessionOf, slotOf}
 use Rattle.tables.specs.State.{Session, Slot, closed, opened}
 
--- An open slot has as many words as a closed one.
-pub length-slotWords : (n : ℕ) (o : Slot) → length (slotWords n o) ≡ 2 * n + 2
-unfolding slotWords
-length-slotWords n closed = length-replicate {A = ℕ} (2 * n + 2) 0
-length-slotWords n (opened q) =
-    omega (arith, length-append (row n (q .readVector)) (row n (q .writeVector)), length-row n (q .readVector), length-row n (q .writeVector))
-
 -- ---- each word of an open slot
 
 module _ (n : ℕ) (q : Session) where
@@ -54,6 +47,15 @@ module _ (n : ℕ) (q : Session) where
       0
       (omega (arith, length-row n (q .readVector)))
       ∙ getD-row n (q .writeVector) j 0 h
+
+-- ---- how many there are
+
+-- An open slot has as many words as a closed one.
+pub length-slotWords : (n : ℕ) (o : Slot) → length (slotWords n o) ≡ 2 * n + 2
+unfolding slotWords
+length-slotWords n closed = length-replicate {A = ℕ} (2 * n + 2) 0
+length-slotWords n (opened q) =
+    omega (arith, length-append (row n (q .readVector)) (row n (q .writeVector)), length-row n (q .readVector), length-row n (q .writeVector))
 
 -- ---- from a slot to its words and back
 

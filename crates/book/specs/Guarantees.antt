@@ -3,16 +3,15 @@
 use Prim.Native.Nat.{ℕ}
 use mathlib.Core.Bool.{true}
 use mathlib.Core.List.{List, [], _∷_, _++_}
-use mathlib.Core.Path.{_≡_, refl, sym, _∙_, ap}
+use mathlib.Core.Path.{_≡_, sym, _∙_, ap, subst}
 use Rattle.logs.specs.Write.{Write, before}
 use Rattle.tables.specs.Size.{Size, within}
-use Rattle.tables.specs.State.{State, empty}
+use Rattle.tables.specs.State.{empty}
 use Rattle.tables.specs.Make.{fresh}
 use Rattle.tables.specs.Meaning.{Means}
 use Rattle.tables.specs.MeaningLaws.{fresh-means}
 use Rattle.steps.specs.Step.{Step}
 use Rattle.steps.specs.Choice.{readYourWrites, monotonicReads, writesFollowReads, monotonicWrites}
-use Rattle.steps.specs.Rules.{rule}
 use Rattle.book.specs.Guarantee.{Stores, DependsOn, after, Reads, Writes, Lasts, Chose}
 use Rattle.book.specs.Propagation.{Precedes}
 use Rattle.book.specs.Moments.{stateAfter, after-append, stored, stores, means-after, kept-after, precedes-after}
@@ -153,7 +152,7 @@ pub never-lost : (z : Size) → within z ≡ true → (pre post : List Step) (i 
     → Stores (after (fresh z) (pre ++ post)) i w
 never-lost z limits pre post i w m =
     let m₁ : Means z (stateAfter z empty pre) (after (fresh z) pre) = means-after (fresh-means z limits) pre in
-    mathlib.Core.Path.subst
+    subst
     (λ (t : List ℕ). Stores t i w)
     (sym (after-append (fresh z) pre post))
     (stores (means-after m₁ post) i w (kept-after m₁ post i w (stored m₁ i w m)))

@@ -1,23 +1,21 @@
 -- From one moment of a schedule to a later one: the states that the tables mean, what servers keep, what a session remembers, and which
 -- write precedes which. Assumes nothing.
 use Prim.Native.Nat.{ℕ}
-use mathlib.Core.Bool.{true}
 use mathlib.Core.List.{List, [], _∷_, _++_}
-use mathlib.Core.Path.{_≡_, refl, sym, _∙_, ap, subst}
+use mathlib.Core.Path.{_≡_, sym, _∙_, ap, subst}
 use Rattle.words.specs.Lists.{In}
 use Rattle.logs.specs.Write.{Write}
 use Rattle.tables.specs.Size.{Size}
 use Rattle.tables.specs.State.{Session, opened, State}
-use Rattle.tables.specs.Layout.{sizeOf, decode}
 use Rattle.tables.specs.Meaning.{Means}
 use Rattle.tables.specs.MeaningLaws.{means-state}
-use Rattle.steps.specs.Step.{Step, closes, asked, Answer}
+use Rattle.steps.specs.Step.{Step, Answer}
 use Rattle.steps.specs.StepLaws.{asked-inRange, asked-close}
 use Rattle.steps.specs.Rules.{rule}
 use Rattle.steps.specs.SoundKept.{effect-keeps}
-use Rattle.steps.specs.Calls.{step, onward, walk}
+use Rattle.steps.specs.Calls.{onward, walk}
 use Rattle.steps.specs.CallLaws.{step-effect, step-answer, means-next, walk-append}
-use Rattle.book.specs.Guarantee.{database, Stores, after, Closes, Lasts}
+use Rattle.book.specs.Guarantee.{database, Stores, after, Lasts}
 use Rattle.book.specs.Session.{Still, later-refl, later-trans, effect-still}
 use Rattle.book.specs.Propagation.{Precedes, effect-precedes}
 

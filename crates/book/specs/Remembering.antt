@@ -1,16 +1,16 @@
 -- What a session remembers of its reads and writes, and why a server that passes its check stores all of it. Assumes nothing.
-use Prim.Native.Nat.{ℕ, _<_, _≤_}
-use mathlib.Core.Bool.{Bool, true, _&&_}
-use mathlib.Core.List.{List, [], _∷_, _++_}
-use mathlib.Core.Path.{_≡_, refl, sym, _∙_, ap, subst}
+use Prim.Native.Nat.{ℕ, _≤_}
+use mathlib.Core.Bool.{Bool, true}
+use mathlib.Core.List.{List}
+use mathlib.Core.Path.{_≡_, refl, sym, _∙_, ap, subst, subst₂}
 use native.Mathlib.Omega.{arith}
-use Rattle.words.specs.Lists.{In, here, upd}
+use Rattle.words.specs.Lists.{In, here}
 use Rattle.words.specs.ListLaws.{in-append-right, upd-same}
 use Rattle.words.specs.Tests.{implies}
 use Rattle.words.specs.TestLaws.{and-left, and-right, implies-use}
 use Rattle.vectors.specs.Vector.{dominates}
 use Rattle.vectors.specs.VectorLaws.{dominates-at, join-right}
-use Rattle.logs.specs.Write.{Write, before}
+use Rattle.logs.specs.Write.{Write}
 use Rattle.tables.specs.Size.{Size}
 use Rattle.tables.specs.State.{Session, opened, State, withVector, withLog, withSlot}
 use Rattle.tables.specs.SoundState.{SoundState}
@@ -178,7 +178,7 @@ module _ {z : Size} {s : State} {t : List ℕ} (means : Means z s t) (y : Step) 
       w
       (m .made)
       (subst (λ (p : Session). w .clock ≤ vector p (w .origin)) (one-session (m .is) (d .open-slot)) (m .covers)) in
-      mathlib.Core.Path.subst₂
+      subst₂
       (λ (u : State) (v : Write). Precedes u w v)
       (sym (d .leaves))
       (sym (write-is means y k w₂ r))

@@ -2,8 +2,7 @@
 use Prim.Native.Nat.{ℕ}
 use mathlib.Core.Bool.{true}
 use mathlib.Core.List.{List, [], _∷_}
-use mathlib.Core.Path.{_≡_, refl, sym, _∙_, ap, ap₂}
-use Rattle.words.specs.TestLaws.{cond-true}
+use mathlib.Core.Path.{_≡_, refl, _∙_, ap, ap₂}
 use Rattle.tables.specs.Size.{Size, within}
 use Rattle.tables.specs.State.{State}
 use Rattle.tables.specs.Make.{fresh, making}
@@ -12,7 +11,7 @@ use Rattle.tables.specs.Meaning.{Means}
 use Rattle.tables.specs.MeaningLaws.{fresh-means}
 use Rattle.steps.specs.Step.{Step, stepsOf, asked, Answer, answerWords}
 use Rattle.steps.specs.Rules.{rule}
-use Rattle.steps.specs.Calls.{step, onward, walk, lengthsFit, run}
+use Rattle.steps.specs.Calls.{onward, walk, lengthsFit, run}
 use Rattle.steps.specs.CallLaws.{step-answer, means-next}
 use Rattle.steps.specs.RunLaws.{run-fits}
 use Rattle.book.specs.Book.{Book, blank, bookStep, bookAnswers}

@@ -1,16 +1,15 @@
 -- What a session remembers from one step to the next, as long as it is not closed. Assumes nothing.
 use Prim.Native.Nat.{ℕ, _≤_, _<_}
-use mathlib.Core.Logic.{_⊎_, inl, inr, ⊎-elim}
+use mathlib.Core.Logic.{⊎-elim}
 use mathlib.Core.Path.{_≡_, refl, sym, _∙_, ap, subst}
 use native.Mathlib.Omega.{arith}
 use borrow.Author.Tests.{eqb-true, eqb-false}
 use lib.Dec.{eqb}
-use Rattle.words.specs.Lists.{upd}
 use Rattle.words.specs.ListLaws.{upd-same, upd-other, upd-elim}
 use Rattle.words.specs.TestLaws.{either}
 use Rattle.vectors.specs.VectorLaws.{join-left}
 use Rattle.tables.specs.Size.{Size}
-use Rattle.tables.specs.State.{Session, Slot, closed, opened, State, withVector, withLog, withSlot}
+use Rattle.tables.specs.State.{Session, closed, opened, State, withVector, withLog, withSlot}
 use Rattle.tables.specs.SoundState.{SoundState, SoundSession, SoundSlot}
 use Rattle.steps.specs.Step.{Op, closes, Answer, done}
 use Rattle.steps.specs.Rules.{newSession, afterRead, afterWrite, accepted, received, newWrite}

@@ -14,7 +14,6 @@ use Rattle.tables.specs.Size.{Size}
 use Rattle.tables.specs.State.{Session, Slot, closed, opened, State, withVector, withLog}
 use Rattle.tables.specs.SoundState.{SoundState}
 use Rattle.steps.specs.Step.{Op, bad, opens, closes, reads, writes, exchanges}
-use Rattle.steps.specs.StepLaws.{InRange}
 use Rattle.steps.specs.Rules.{Outcome, refuse, newSession, opening, closing, readAnswer, afterRead, readFrom, reading, afterWrite, accepted, writeAnswer, writeTo, writing, sent, received, exchangeAnswer, exchanging, obeyed}
 use Rattle.book.specs.Book.{BookSession, BookSlot, shut, live, Book, held, relevant, newestOn, latestClock, BookOutcome, bookRefuse, bookOpening, bookClosing, bookAnswer, bookReadFrom, bookReading, bookNewWrite, bookAccepted, bookWriteTo, bookWriting, bookExchanging, bookStep, withArrived}
 use Rattle.book.specs.BookLaws.{latestClock-above}

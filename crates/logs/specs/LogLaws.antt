@@ -1,20 +1,20 @@
 -- What holds of a log after a write is put in its place, of the last write on an item, of what a server lacks, and of a vector that
 -- follows. Assumes nothing.
 use Prim.Native.Nat.{ℕ, zero, suc, _+_, _<_, _≤_}
-use mathlib.Core.Bool.{Bool, true, false, cond}
+use mathlib.Core.Bool.{true, false, cond}
 use mathlib.Core.List.{List, [], _∷_, _++_}
 use mathlib.Core.Logic.{_⊎_, inl, inr, ⊎-elim}
 use mathlib.Core.Option.{Option, none, some}
 use mathlib.Core.Path.{_≡_, refl, sym, _∙_, ap, subst}
 use native.Mathlib.Omega.{arith}
-use borrow.Author.Tests.{eqb-true, eqb-false, eq-eqb, ltb-true, lt-ltb}
+use borrow.Author.Tests.{eqb-true, eq-eqb, ltb-true, lt-ltb}
 use lib.Dec.{eqb, ltb}
 use lib.ListN.{length, take}
-use Rattle.words.specs.Lists.{In, here, there, keep, orElse, upd}
-use Rattle.words.specs.ListLaws.{in-nil, in-cons, in-keep, keep-passes, keep-in, upd-same, upd-other, upd-elim}
-use Rattle.words.specs.TestLaws.{cond-elim, cond-true, cond-false, either, true-not-false}
+use Rattle.words.specs.Lists.{In, here, there, orElse, upd}
+use Rattle.words.specs.ListLaws.{in-nil, in-cons, in-keep, keep-passes, keep-in, upd-same, upd-elim, in-take}
+use Rattle.words.specs.TestLaws.{cond-elim, cond-true, cond-false, either}
 use Rattle.logs.specs.Write.{Write, before}
-use Rattle.logs.specs.WriteLaws.{SameKey, before-trans, before-total, before-asym, before-irrefl, before-clock-le}
+use Rattle.logs.specs.WriteLaws.{SameKey, before-trans, before-total, before-asym, before-clock-le, before-not-key}
 use Rattle.logs.specs.Log.{insert, insertAll, lastOn, lacking, follow}
 use Rattle.logs.specs.Ascending.{Ascending, ascending-nil, ascending-cons}
 use Rattle.logs.specs.AscendingLaws.{ascending-head, ascending-tail, keep-ascending}
@@ -122,7 +122,7 @@ insertAll-ascending (w ∷ ws) {g} p q new =
     (insert-ascending w q (λ x h. new w x (here refl) h))
     (λ y x h m k.
     ⊎-elim
-    (λ e. Rattle.logs.specs.WriteLaws.before-not-key w y (ascending-head p y h) (sym (k .0 ∙ ap (λ v. v .clock) e), sym (k .1 ∙ ap (λ v. v .origin) e)))
+    (λ e. before-not-key w y (ascending-head p y h) (sym (k .0 ∙ ap (λ v. v .clock) e), sym (k .1 ∙ ap (λ v. v .origin) e)))
     (λ m′. new y x (there h) m′ k)
     (in-insert w g m))
 
@@ -132,7 +132,7 @@ pub take-ascending : (k : ℕ) {g : List Write} → Ascending g → Ascending (t
 take-ascending zero a = ascending-nil
 take-ascending (suc k) ascending-nil = ascending-nil
 take-ascending (suc k) (ascending-cons {w = w} {ws = ws} head rest) =
-    ascending-cons (λ x h. head x (Rattle.words.specs.ListLaws.in-take k ws h)) (take-ascending k rest)
+    ascending-cons (λ x h. head x (in-take k ws h)) (take-ascending k rest)
 
 -- C2: what stands before one of the first k is among the first k.
 pub take-before : (k : ℕ) {g : List Write} → Ascending g → (w x : Write) → In w (take k g) → In x g → before x w ≡ true → In x (take k g)

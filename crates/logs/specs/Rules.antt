@@ -1,7 +1,7 @@
 -- What 01, "A sound table", asks of a log by itself (c), of a log and its server's vector (d), and of two logs (e).
 -- Assumes nothing.
 use Prim.Native.Nat.{ℕ, suc, max}
-use mathlib.Core.Bool.{Bool, true, false, cond, _&&_, _||_}
+use mathlib.Core.Bool.{Bool, true, false, _&&_, _||_}
 use mathlib.Core.List.{List, [], _∷_}
 use lib.Dec.{ltb, leb, eqb}
 use Rattle.words.specs.Lists.{keep}

@@ -1,8 +1,8 @@
 -- What holds of a step on words and of steps one after another, for any table. Assumes nothing.
-use Prim.Native.Nat.{ℕ, suc, _≤_}
-use mathlib.Core.Bool.{Bool, true, false, _&&_}
+use Prim.Native.Nat.{ℕ, _≤_}
+use mathlib.Core.Bool.{true, false, _&&_}
 use mathlib.Core.List.{List, [], _∷_, _++_}
-use mathlib.Core.Logic.{_⊎_, inl, inr, ⊎-elim}
+use mathlib.Core.Logic.{⊎-elim}
 use mathlib.Core.Path.{_≡_, refl, sym, _∙_, ap, ap₂, subst}
 use native.Mathlib.Omega.{arith}
 use borrow.Author.Tests.{leb-true}
@@ -17,16 +17,15 @@ use Rattle.tables.specs.State.{State}
 use Rattle.tables.specs.Layout.{sizeOf, encode, decode}
 use Rattle.tables.specs.Make.{fresh}
 use Rattle.tables.specs.Sound.{sound}
-use Rattle.tables.specs.SoundState.{SoundState}
 use Rattle.tables.specs.Meaning.{Means}
 use Rattle.tables.specs.MeaningLaws.{sound-means, means-sound, means-size, means-state, fresh-sound}
 use Rattle.steps.specs.Step.{Step, Op, asked, Answer, refused, done}
 use Rattle.steps.specs.StepLaws.{asked-inRange}
-use Rattle.steps.specs.Rules.{Outcome, readAnswer, writeAnswer, exchangeAnswer, obeyed, rule}
+use Rattle.steps.specs.Rules.{writeAnswer, exchangeAnswer, rule}
 use Rattle.steps.specs.CodeLaws.{read-code}
 use Rattle.steps.specs.Effects.{Effect, was-refused, was-opened, was-closed, was-read, was-written, was-exchanged, effect}
 use Rattle.steps.specs.SoundKept.{effect-sound}
-use Rattle.steps.specs.Calls.{Stepped, written, step, Walked, onward, walk}
+use Rattle.steps.specs.Calls.{written, step, onward, walk}
 
 pub within-server : (z : Size) → within z ≡ true → 1 ≤ z .n
 unfolding within

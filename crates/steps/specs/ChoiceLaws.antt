@@ -1,15 +1,16 @@
 -- What holds of the search order and of reach. Assumes nothing.
-use Prim.Native.Nat.{ℕ, zero, suc, _+_, _-_, _*_, _/_, _%_, _^_, _<_, _≤_}
+use Prim.Native.Nat.{ℕ, zero, suc, _+_, _-_, _/_, _%_, _^_, _<_, _≤_}
 use mathlib.Core.Bool.{Bool, true, false, _&&_}
 use mathlib.Core.List.{List, [], _∷_, _++_}
-use mathlib.Core.Logic.{_⊎_, inl, inr, ⊎-elim}
-use mathlib.Core.Option.{Option, none, some}
+use mathlib.Core.Logic.{⊎-elim}
+use mathlib.Core.Option.{none, some}
 use mathlib.Core.Path.{_≡_, refl, sym, _∙_, ap, ap₂, subst}
 use native.Mathlib.Nat.{pow-succ', div-div-eq-div-mul, div-one, zero-div}
 use native.Mathlib.Omega.{arith}
 use borrow.Author.Tests.{eqb-true, eqb-false, eq-eqb, ne-eqb}
 use lib.Dec.{eqb}
-use Rattle.words.specs.Lists.{In, here, there, first}
+use Rattle.words.specs.CaseLaws.{lt-or-le}
+use Rattle.words.specs.Lists.{In, here, there}
 use Rattle.words.specs.ListLaws.{in-nil, in-cons, in-append-left, in-append-right, Found, first-found, first-none}
 use Rattle.words.specs.TestLaws.{cond-elim, cond-true, cond-false, either, true-not-false, and-left, and-right, and-both, not-true-false}
 use Rattle.tables.specs.Size.{Size}
@@ -78,12 +79,9 @@ around-all n start h i l =
     (λ (s : List ℕ). In i s)
     (sym (around-is n start h))
     (⊎-elim
-    (λ (e : Prim.Native.Nat._≤_ start i). in-append-left (upFrom 0 start) (in-upFrom start (n - start) i e (omega arith)))
     (λ (e : i < start). in-append-right (upFrom start (n - start)) (in-upFrom 0 start i (omega arith) (omega arith)))
-    (order start i))
-  where
-    order : (a b : ℕ) → (a ≤ b) ⊎ (b < a)
-    order a b = ⊎-elim (λ e. inl (borrow.Author.Tests.leb-true a b e)) (λ e. inr (borrow.Author.Tests.leb-false a b e)) (either (lib.Dec.leb a b))
+    (λ (e : start ≤ i). in-append-left (upFrom 0 start) (in-upFrom start (n - start) i e (omega arith)))
+    (lt-or-le i start))
 
 -- Nothing but servers is tried.
 onwards-below : (n k i : ℕ) → i < n → (j : ℕ) → In j (onwards n k i) → j < n

@@ -1,25 +1,24 @@
 -- The rules give each code exactly on its condition. Assumes nothing.
 use Prim.Native.Nat.{ℕ, zero, suc, _<_, _≤_}
 use mathlib.Core.Bool.{Bool, true, false, _&&_}
-use mathlib.Core.Logic.{_⊎_, inl, inr, ⊎-elim, _↔_}
+use mathlib.Core.Logic.{_↔_}
 use mathlib.Core.Option.{Option, none, some}
 use mathlib.Core.Path.{_≡_, refl, sym, _∙_, ap, subst}
 use native.Mathlib.Omega.{arith}
 use borrow.Author.Tests.{eqb-true, eqb-false, eq-eqb, ne-eqb}
 use lib.Dec.{eqb}
-use Rattle.words.specs.Lists.{In}
 use Rattle.words.specs.ListLaws.{none-first}
-use Rattle.words.specs.TestLaws.{cond-elim, cond-true, cond-false, not-true-false, true-not-false, and-left, and-right, and-both, either}
+use Rattle.words.specs.TestLaws.{cond-elim, cond-true, cond-false, not-true-false, true-not-false, and-left, and-right, and-both}
 use Rattle.logs.specs.Write.{Write}
 use Rattle.logs.specs.Log.{lastOn}
 use Rattle.tables.specs.Size.{Size}
 use Rattle.tables.specs.State.{Session, Slot, closed, opened, State}
 use Rattle.tables.specs.SoundState.{SoundState}
-use Rattle.steps.specs.Step.{Op, bad, opens, closes, reads, writes, exchanges, Answer, refused, done}
+use Rattle.steps.specs.Step.{Op, bad, opens, closes, reads, writes, exchanges, refused, done}
 use Rattle.steps.specs.Choice.{upToDateToRead, upToDateToWrite, reaches, startOf, choose, around}
 use Rattle.steps.specs.ChoiceLaws.{Chosen, choose-some, choose-none, around-below, starts}
-use Rattle.steps.specs.Rules.{Outcome, refuse, opening, closing, readAnswer, readFrom, reading, newWrite, writeAnswer, writeTo, hasRoom, writing, exchangeAnswer, exchanging, obeyed}
-use Rattle.steps.specs.Codes.{OutOfRange, out-of-range, WrongSlot, opens-open, closes-closed, reads-closed, writes-closed, ToItself, to-itself, NoneReachable, reads-none, writes-none, BehindBy, Behind, reads-behind, writes-behind, NoRoom, Full, writes-full, Given}
+use Rattle.steps.specs.Rules.{Outcome, refuse, opening, closing, readAnswer, readFrom, reading, writeAnswer, writeTo, hasRoom, writing, exchangeAnswer, exchanging, obeyed}
+use Rattle.steps.specs.Codes.{OutOfRange, out-of-range, WrongSlot, opens-open, closes-closed, reads-closed, writes-closed, ToItself, to-itself, NoneReachable, reads-none, writes-none, Behind, reads-behind, writes-behind, Full, writes-full, Given}
 
 -- Nothing found where every reachable server fails.
 choose-fails : (n start reach : ℕ) (passes : ℕ → Bool) → start < n → ((i : ℕ) → i < n → reaches reach i ≡ true → passes i ≡ false)

@@ -4,7 +4,7 @@ use Prim.Native.Nat.{ℕ, zero, suc, _<_}
 use mathlib.Core.Bool.{Bool, true, false}
 use mathlib.Core.Path.{_≡_}
 use Rattle.tables.specs.Size.{Size}
-use Rattle.tables.specs.State.{Session, Slot, closed, opened, State}
+use Rattle.tables.specs.State.{Session, closed, opened, State}
 use Rattle.steps.specs.Step.{Op, bad, opens, closes, reads, writes, exchanges}
 use Rattle.steps.specs.Choice.{reaches, upToDateToRead, upToDateToWrite}
 use Rattle.steps.specs.Rules.{hasRoom}

@@ -1,6 +1,6 @@
 -- What an accepted read, write and exchange did: who was chosen, what was answered, and what every vector and log then is.
 -- Assumes nothing.
-use Prim.Native.Nat.{ℕ, _+_, _-_, _<_, min}
+use Prim.Native.Nat.{ℕ, _+_, _-_, min}
 use mathlib.Core.Bool.{true}
 use mathlib.Core.List.{List, [], _∷_, _++_}
 use mathlib.Core.Logic.{_⊎_, _↔_}
@@ -8,7 +8,7 @@ use mathlib.Core.Path.{_≡_}
 use lib.ListN.{length, take}
 use Rattle.words.specs.Lists.{In}
 use Rattle.logs.specs.Write.{Write, before}
-use Rattle.logs.specs.Log.{lastOn, lacking}
+use Rattle.logs.specs.Log.{lastOn}
 use Rattle.logs.specs.Ascending.{Ascending}
 use Rattle.tables.specs.Size.{Size}
 use Rattle.tables.specs.State.{Session, opened, State, withSlot}

@@ -1,22 +1,22 @@
 -- An accepted step did what Done.antt says. Assumes nothing.
-use Prim.Native.Nat.{ℕ, _+_, _<_, _≤_, min}
+use Prim.Native.Nat.{ℕ, _≤_}
 use mathlib.Core.List.{List, [], _∷_, _++_}
-use mathlib.Core.Logic.{_⊎_, inl, inr, ⊎-elim, _↔_}
+use mathlib.Core.Logic.{⊎-elim, _↔_}
 use mathlib.Core.Path.{_≡_, refl, sym, _∙_, ap, subst}
 use native.Mathlib.Omega.{arith}
 use lib.ListN.{length}
-use Rattle.words.specs.Lists.{In, upd}
+use Rattle.words.specs.Lists.{In}
 use Rattle.words.specs.ListLaws.{upd-same}
 use Rattle.words.specs.CaseLaws.{lt-or-le}
 use Rattle.logs.specs.Write.{Write}
-use Rattle.logs.specs.Log.{insertAll, lacking, lastOn}
+use Rattle.logs.specs.Log.{insertAll, lacking}
 use Rattle.logs.specs.LogLaws.{in-lacking, lacking-above, lacking-in, lacking-ascending, in-insertAll, insertAll-old, insertAll-new, length-insertAll}
 use Rattle.tables.specs.Size.{Size}
-use Rattle.tables.specs.State.{Session, State, withVector, withLog, withSlot}
+use Rattle.tables.specs.State.{State, withVector, withLog, withSlot}
 use Rattle.tables.specs.SoundState.{SoundState}
-use Rattle.steps.specs.Step.{Op, reads, writes, exchanges, Answer, refused}
+use Rattle.steps.specs.Step.{reads, writes, exchanges, Answer, refused}
 use Rattle.steps.specs.Rules.{newWrite, accepted, goingOver, sent, received, exchangeAnswer}
-use Rattle.steps.specs.Effects.{Effect, was-refused, was-opened, was-closed, was-read, was-written, was-exchanged}
+use Rattle.steps.specs.Effects.{Effect, was-refused, was-read, was-written, was-exchanged}
 use Rattle.steps.specs.Grown.{new-last, length-sent, sent-after}
 use Rattle.steps.specs.Done.{ReadDone, WriteDone, ExchangeDone}
 

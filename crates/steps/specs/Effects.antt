@@ -1,21 +1,19 @@
 -- What a step does, in six cases. Every later fact about steps goes by these cases, and none opens the rules again.
 -- Assumes nothing.
-use Prim.Native.Nat.{ℕ, zero, suc, _<_, _≤_}
-use mathlib.Core.Bool.{Bool, true, false, cond, _&&_}
-use mathlib.Core.Logic.{_⊎_, inl, inr, ⊎-elim}
+use Prim.Native.Nat.{ℕ, _≤_}
+use mathlib.Core.Bool.{_&&_}
 use mathlib.Core.Option.{Option, none, some}
-use mathlib.Core.Path.{_≡_, refl, sym, _∙_, ap, subst}
+use mathlib.Core.Path.{_≡_, refl}
 use native.Mathlib.Omega.{arith}
-use borrow.Author.Tests.{eqb-true, eqb-false}
+use borrow.Author.Tests.{eqb-false}
 use lib.Dec.{eqb}
 use Rattle.words.specs.TestLaws.{cond-elim}
-use Rattle.logs.specs.Write.{Write}
 use Rattle.logs.specs.Log.{lastOn}
 use Rattle.tables.specs.Size.{Size}
 use Rattle.tables.specs.State.{Session, Slot, closed, opened, State, withSlot}
 use Rattle.tables.specs.SoundState.{SoundState}
 use Rattle.steps.specs.Step.{Op, bad, opens, closes, reads, writes, exchanges, Answer, refused, done}
-use Rattle.steps.specs.Choice.{upToDateToRead, upToDateToWrite, startOf, choose}
+use Rattle.steps.specs.Choice.{upToDateToRead, upToDateToWrite, startOf}
 use Rattle.steps.specs.ChoiceLaws.{Chosen, choose-some, starts}
 use Rattle.steps.specs.Rules.{Outcome, refuse, newSession, opening, closing, readAnswer, afterRead, readFrom, reading, newWrite, accepted, writeAnswer, writeTo, hasRoom, writing, goingOver, sent, received, exchangeAnswer, exchanging, obeyed}
 

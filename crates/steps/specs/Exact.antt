@@ -2,10 +2,10 @@
 use Prim.Native.Nat.{ℕ, _<_, _≤_}
 use mathlib.Core.Bool.{Bool, true, false}
 use mathlib.Core.List.{List}
-use mathlib.Core.Logic.{_⊎_, inl, inr, ⊎-elim, _↔_}
-use mathlib.Core.Path.{_≡_, refl, sym, _∙_, ap, subst}
+use mathlib.Core.Logic.{⊎-elim, _↔_}
+use mathlib.Core.Path.{_≡_, sym, _∙_, ap, subst, subst₂}
 use native.Mathlib.Omega.{arith}
-use Rattle.words.specs.TestLaws.{either, true-not-false, not-true-false}
+use Rattle.words.specs.TestLaws.{either, not-true-false}
 use Rattle.logs.specs.Rules.{greatestOf}
 use Rattle.logs.specs.RulesLaws.{greatest-unique}
 use Rattle.tables.specs.Size.{Size}
@@ -13,7 +13,7 @@ use Rattle.tables.specs.State.{Session, opened, State}
 use Rattle.tables.specs.Layout.{sizeOf, decode}
 use Rattle.tables.specs.Sound.{sound}
 use Rattle.tables.specs.Meaning.{Means}
-use Rattle.tables.specs.MeaningLaws.{sound-means, means-size, means-state}
+use Rattle.tables.specs.MeaningLaws.{sound-means, means-state}
 use Rattle.steps.specs.Step.{Step, Op, reads, writes, exchanges, reachInRange, asked, Answer, refused}
 use Rattle.steps.specs.StepLaws.{InRange, asked-inRange}
 use Rattle.steps.specs.Choice.{reaches, upToDateToRead, upToDateToWrite}
@@ -132,7 +132,7 @@ module _ (t : List ℕ) (x : Step) (is-sound : sound t ≡ true) (done : step t 
   happened : (o : Op) → asked z x ≡ o → Effect z s o (step t x .answer) after
   happened o e =
       let means : Means z s t = sound-means t is-sound in
-      mathlib.Core.Path.subst₂
+      subst₂
       (λ (r : Answer) (u : State). Effect z s o r u)
       (sym (step-answer means x))
       (sym (means-state (means-next means x)))

@@ -1,10 +1,10 @@
 -- Figure 1 of 002, line by line, and the rest of what a read, a write and an opening leave of a session. "Both vectors are updated
 -- whichever guarantees were chosen, as in Figure 1." Assumes nothing.
 use Prim.Native.Nat.{ℕ, suc, max}
-use mathlib.Core.List.{List, [], _∷_, _++_}
-use mathlib.Core.Path.{_≡_, refl, _∙_, ap}
+use mathlib.Core.List.{[], _∷_, _++_}
+use mathlib.Core.Path.{_≡_, refl, _∙_, ap, sym}
 use Rattle.words.specs.Lists.{upd}
-use Rattle.words.specs.ListLaws.{upd-same, upd-other}
+use Rattle.words.specs.ListLaws.{upd-same, upd-other, upd-elim}
 use Rattle.vectors.specs.Vector.{join}
 use Rattle.logs.specs.Write.{Write}
 use Rattle.tables.specs.State.{Session, State, withVector, withLog, withSlot}
@@ -66,13 +66,13 @@ module _ (s : State) (k : ℕ) (q : Session) (i : ℕ) (w : Write) where
   pub accepted-others : (h j : ℕ) → (j ≡ i → ⊥) → accepted s k q i w .vector h j ≡ s .vector h j
   unfolding accepted withSlot withVector withLog
   accepted-others h j e =
-      Rattle.words.specs.ListLaws.upd-elim
+      upd-elim
       (λ (v : ℕ → ℕ). v j ≡ s .vector h j)
       (s .vector)
       i
       (upd (s .vector i) i (w .clock))
       h
-      (λ d. upd-other (s .vector i) i (w .clock) j e ∙ ap (λ m. s .vector m j) (mathlib.Core.Path.sym d))
+      (λ d. upd-other (s .vector i) i (w .clock) j e ∙ ap (λ m. s .vector m j) (sym d))
       (λ d. refl)
 
 -- 01: "Open sets guarantees, zeros the rest."

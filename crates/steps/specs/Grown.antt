@@ -1,20 +1,19 @@
 -- A write and an exchange are a growth of one server's log, with C1 and C2 of 002, section 4. Assumes nothing.
-use Prim.Native.Nat.{ℕ, suc, _+_, _-_, _<_, _≤_, min}
+use Prim.Native.Nat.{ℕ, suc, _-_, _<_, _≤_}
 use mathlib.Core.Bool.{true, false}
-use mathlib.Core.List.{List, [], _∷_, _++_}
+use mathlib.Core.List.{[], _∷_, _++_}
 use mathlib.Core.Logic.{_⊎_, inl, inr, ⊎-elim}
 use mathlib.Core.Path.{_≡_, refl, sym, _∙_, ap, subst}
 use native.Mathlib.Omega.{arith}
 use borrow.Author.Tests.{ltb-true, ltb-false}
 use lib.Dec.{ltb}
-use lib.ListN.{length, take, length-append, length-take}
-use Rattle.words.specs.Lists.{In, here, there, upd}
+use lib.ListN.{length, length-append, length-take}
+use Rattle.words.specs.Lists.{In, here, upd}
 use Rattle.words.specs.ListLaws.{in-one, in-append-left, in-append-right, in-append-cases, in-take, upd-same, upd-other, upd-elim}
 use Rattle.words.specs.TestLaws.{either}
-use Rattle.vectors.specs.Vector.{greatest}
 use Rattle.vectors.specs.VectorLaws.{greatest-above, greatest-attained, GreatestAt}
 use Rattle.logs.specs.Write.{Write, before}
-use Rattle.logs.specs.WriteLaws.{SameKey, before-clock}
+use Rattle.logs.specs.WriteLaws.{before-clock}
 use Rattle.logs.specs.Log.{insertAll, lacking, follow}
 use Rattle.logs.specs.Ascending.{Ascending}
 use Rattle.logs.specs.AscendingLaws.{key-unique, ascending-snoc}

@@ -9,7 +9,7 @@ use Rattle.logs.specs.Write.{before, same}
 use Rattle.logs.specs.Log.{insert, insertAll, lastOn, lacking, follow}
 use Rattle.logs.specs.Rules.{inRange, goesOn, ordered, ofOrigin, upTo, greatestClock, greatestOf, sameAll, agrees}
 use Rattle.logs.specs.Places.{spelled, places, entry, entries}
-use Rattle.tables.specs.Size.{Size, within}
+use Rattle.tables.specs.Size.{within}
 use Rattle.tables.specs.State.{withVector, withLog, withSlot}
 use Rattle.tables.specs.Layout.{header, vectorAt, countAt, logAt, slotWidth, slotAt, size, headWords, slotWords, encode, sizeOf, logPart, slotPart, sessionOf, slotOf, decode}
 use Rattle.tables.specs.Sound.{ruleA, ruleB, ruleC, ruleD, ruleE, slotSound, ruleF, soundAt, sound}

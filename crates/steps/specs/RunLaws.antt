@@ -1,21 +1,20 @@
 -- What holds of a run on words, and that the promises of step and run leave nothing open. Assumes nothing.
-use Prim.Native.Nat.{ℕ, suc, _+_, _*_, _%_}
-use mathlib.Core.Bool.{Bool, true, false, _&&_}
-use mathlib.Core.List.{List, [], _∷_, _++_}
-use mathlib.Core.Logic.{_⊎_, inl, inr, ⊎-elim, _↔_}
+use Prim.Native.Nat.{ℕ, suc, _*_, _%_}
+use mathlib.Core.Bool.{true, false}
+use mathlib.Core.List.{List, [], _∷_}
+use mathlib.Core.Logic.{⊎-elim, _↔_}
 use mathlib.Core.Path.{_≡_, refl, sym, _∙_, ap}
 use native.Mathlib.Omega.{arith}
-use borrow.Author.Tests.{eqb-true, eq-eqb}
+use borrow.Author.Tests.{eqb-true}
 use lib.Dec.{eqb}
 use lib.ListN.{length, replicate}
-use Rattle.words.specs.TestLaws.{cond-true, cond-false, either, true-not-false, not-true-false, and-left, and-right, and-both}
-use Rattle.tables.specs.Layout.{sizeOf, decode, encode, size}
+use Rattle.words.specs.TestLaws.{cond-true, cond-false, either, not-true-false, and-left, and-right}
+use Rattle.tables.specs.Layout.{sizeOf}
 use Rattle.tables.specs.LayoutLaws.{length-encode}
 use Rattle.tables.specs.Sound.{sound}
 use Rattle.tables.specs.MeaningLaws.{sound-means}
 use Rattle.steps.specs.Step.{Step, stepWords, stepsOf, Answer, refused, answerWords}
-use Rattle.steps.specs.Rules.{rule}
-use Rattle.steps.specs.Calls.{step, Walked, onward, walk, Ran, lengthsFit, run, StepPromise, RunPromise}
+use Rattle.steps.specs.Calls.{step, Walked, onward, walk, lengthsFit, run, StepPromise, RunPromise}
 use Rattle.steps.specs.CallLaws.{step-unsound, means-next, walk-unsound}
 
 -- ---- lengths

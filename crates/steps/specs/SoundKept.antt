@@ -1,9 +1,8 @@
 -- A step never makes a sound state unsound, and no log ever loses a write. Assumes nothing.
-use Prim.Native.Nat.{ℕ, suc, _<_, _≤_}
-use mathlib.Core.Bool.{true, _&&_}
-use mathlib.Core.List.{List, [], _∷_, _++_}
+use Prim.Native.Nat.{ℕ, _<_, _≤_}
+use mathlib.Core.List.{[], _∷_, _++_}
 use mathlib.Core.Logic.{⊎-elim}
-use mathlib.Core.Path.{_≡_, refl, sym, _∙_, ap, subst}
+use mathlib.Core.Path.{_≡_, refl, ap, subst}
 use native.Mathlib.Omega.{arith}
 use borrow.Author.Tests.{eqb-true, eqb-false}
 use lib.Dec.{eqb}
@@ -12,13 +11,13 @@ use Rattle.words.specs.ListLaws.{upd-same}
 use Rattle.words.specs.TestLaws.{either, and-right}
 use Rattle.logs.specs.Write.{Write}
 use Rattle.tables.specs.Size.{Size, sums}
-use Rattle.tables.specs.State.{Session, Slot, closed, opened, State, withVector, withLog, withSlot}
+use Rattle.tables.specs.State.{Session, closed, opened, State, withVector, withLog, withSlot}
 use Rattle.tables.specs.SoundState.{SoundState, SoundSession, SoundSlot}
 use Rattle.tables.specs.Growth.{Grows, vector-below-own, slot-above, slot-sound, grows-above, grows-keeps, grows-sound}
 use Rattle.steps.specs.Step.{Op, writes, Answer}
 use Rattle.steps.specs.StepLaws.{InRange}
 use Rattle.steps.specs.Choice.{upToDateToWrite}
-use Rattle.steps.specs.Rules.{newSession, afterRead, afterWrite, newWrite, hasRoom, accepted, sent, received}
+use Rattle.steps.specs.Rules.{newSession, afterRead, afterWrite, newWrite, hasRoom, accepted, received}
 use Rattle.steps.specs.Effects.{Effect, was-refused, was-opened, was-closed, was-read, was-written, was-exchanged, ChosenToWrite}
 use Rattle.steps.specs.Figure1.{read-raises, read-leaves, read-chosen, read-uses, write-sets, write-leaves, write-reads, write-chosen, write-uses, new-chosen, new-unused, new-reads, new-writes}
 use Rattle.steps.specs.Grown.{write-grows, exchange-grows}

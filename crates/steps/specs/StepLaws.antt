@@ -1,11 +1,11 @@
 -- What is known of a step that is in range. Assumes nothing.
 use Prim.Native.Nat.{ℕ, _<_}
-use mathlib.Core.Bool.{Bool, true, false, cond, _&&_}
+use mathlib.Core.Bool.{Bool, true, cond}
 use mathlib.Core.Logic.{_⊎_, inl, inr}
-use mathlib.Core.Path.{_≡_, refl, sym, subst}
+use mathlib.Core.Path.{_≡_, refl}
 use native.Mathlib.Omega.{arith}
 use borrow.Author.Tests.{ltb-true, eqb-true}
-use lib.Dec.{ltb, eqb}
+use lib.Dec.{eqb}
 use Rattle.words.specs.TestLaws.{cond-elim, and-left, and-right}
 use Rattle.tables.specs.Size.{Size, items, sums}
 use Rattle.steps.specs.Step.{Step, Op, bad, opens, closes, reads, writes, exchanges, reachInRange, openInRange, closeInRange, readInRange, writeInRange, exchangeInRange, ofKind, asked}

@@ -3,15 +3,15 @@
 use Prim.Native.Nat.{ℕ, _+_, _*_, _<_, _≤_}
 use mathlib.Core.Bool.{true}
 use mathlib.Core.List.{List, [], _∷_, _++_}
-use mathlib.Core.Logic.{inl, inr, ⊎-elim}
-use mathlib.Core.Path.{_≡_, sym, _∙_, ap, ap₂, subst, fun-ext}
+use mathlib.Core.Logic.{inl, inr}
+use mathlib.Core.Path.{_≡_, sym, _∙_, ap, ap₂, fun-ext}
 use native.Mathlib.Omega.{arith}
 use borrow.Author.Tests.{leb-true}
 use lib.Dec.{leb}
 use lib.ListN.{length, getD}
-use Rattle.words.specs.Lists.{In, row, part, below}
+use Rattle.words.specs.Lists.{row, part, below}
 use Rattle.words.specs.BlockLaws.{part-blocks, rows}
-use Rattle.words.specs.ListLaws.{in-nil, below-in, below-same}
+use Rattle.words.specs.ListLaws.{below-in, below-same}
 use Rattle.words.specs.PartLaws.{length-part, part-all, part-add, part-one, row-part, row-part-below}
 use Rattle.words.specs.RowLaws.{blocks-cong}
 use Rattle.words.specs.Tests.{zeros}

@@ -1,10 +1,10 @@
 -- A sound state in which one server's log grew, or one slot was set, is sound. Writes and exchanges are both such a growth.
 -- Assumes nothing.
 use Prim.Native.Nat.{ℕ, suc, _<_, _≤_}
-use mathlib.Core.Bool.{true}
-use mathlib.Core.List.{List, []}
+use mathlib.Core.Bool.{true, Bool, false, cond}
+use mathlib.Core.List.{List}
 use mathlib.Core.Logic.{_⊎_, inl, inr, ⊎-elim}
-use mathlib.Core.Path.{_≡_, refl, sym, _∙_, ap, subst, subst₂}
+use mathlib.Core.Path.{_≡_, sym, _∙_, ap, subst}
 use native.Mathlib.Omega.{arith}
 use borrow.Author.Tests.{eqb-true, eqb-false}
 use lib.Dec.{eqb}
@@ -16,8 +16,8 @@ use Rattle.logs.specs.Write.{Write}
 use Rattle.logs.specs.Ascending.{Ascending}
 use Rattle.logs.specs.Witness.{Witness, Timed}
 use Rattle.tables.specs.Size.{Size, items}
-use Rattle.tables.specs.State.{State, Session, Slot, closed, opened, withVector, withLog, withSlot}
-use Rattle.tables.specs.SoundState.{SoundState, SoundSession, SoundSlot}
+use Rattle.tables.specs.State.{State, Slot, closed, opened, withVector, withLog, withSlot}
+use Rattle.tables.specs.SoundState.{SoundState, SoundSlot}
 
 -- Server t's log becomes g and its vector v; `news` are the writes that came.
 pub record Grows (z : Size) (s : State) (t : ℕ) (news g : List Write) (v : ℕ → ℕ) : Type 0 where
@@ -191,9 +191,9 @@ module _ {z : Size} {s : State} (sound : SoundState z s) where
     unfolding upd
     at-server i P yea nay = cases (eqb i t)
       where
-        cases : (b : mathlib.Core.Bool.Bool) → P (mathlib.Core.Bool.cond b g (s .log i)) (mathlib.Core.Bool.cond b v (s .vector i))
-        cases mathlib.Core.Bool.Bool.true = yea
-        cases mathlib.Core.Bool.Bool.false = nay
+        cases : (b : Bool) → P (cond b g (s .log i)) (cond b v (s .vector i))
+        cases true = yea
+        cases false = nay
 
     pub grows-sound : SoundState z (withVector (withLog s t g) t v)
     unfolding withVector withLog

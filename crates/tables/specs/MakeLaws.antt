@@ -1,19 +1,19 @@
 -- A fresh table is the words of the empty state, and what making answers. Assumes nothing.
 use Prim.Native.Nat.{ℕ, _+_, _-_, _*_}
-use mathlib.Core.Bool.{Bool, true, false}
+use mathlib.Core.Bool.{true, false}
 use mathlib.Core.List.{List, [], _∷_, _++_}
-use mathlib.Core.Logic.{_⊎_, inl, inr, ⊎-elim, _↔_}
+use mathlib.Core.Logic.{⊎-elim, _↔_}
 use mathlib.Core.Path.{_≡_, refl, sym, _∙_, ap}
 use native.Mathlib.Omega.{arith}
 use borrow.Author.Tests.{eqb-true, eqb-false, eq-eqb, ne-eqb}
 use lib.Dec.{eqb}
 use lib.ListN.{length, replicate, replicate-append-replicate}
 use Rattle.words.specs.BlockLaws.{row-replicate, blocks-replicate}
-use Rattle.words.specs.TestLaws.{cond-true, cond-false, either, true-not-false}
+use Rattle.words.specs.TestLaws.{cond-true, cond-false, either}
 use Rattle.logs.specs.Places.{width, places}
 use Rattle.logs.specs.PlacesLaws.{places-nil}
 use Rattle.tables.specs.Layout.{size, headWords, slotWords, encode}
-use Rattle.tables.specs.Make.{fresh, Made, making, MakePromise}
+use Rattle.tables.specs.Make.{fresh, making, MakePromise}
 use Rattle.tables.specs.Size.{Size, within}
 use Rattle.tables.specs.State.{closed, empty}
 

@@ -1,7 +1,7 @@
 -- A table is sound, by rules a to f on its words, exactly if it is the words of a sound state; and nothing is lost either way.
 -- Assumes nothing.
-use Prim.Native.Nat.{ℕ, _<_, _≤_, _*_}
-use mathlib.Core.Bool.{Bool, true, false, _&&_}
+use Prim.Native.Nat.{ℕ, _≤_, _*_}
+use mathlib.Core.Bool.{true, _&&_}
 use mathlib.Core.List.{List, []}
 use mathlib.Core.Logic.{_⊎_, inl, inr, ⊎-elim, _↔_}
 use mathlib.Core.Path.{_≡_, refl, sym, _∙_, ap, ap₂, subst, subst₂}
@@ -11,16 +11,15 @@ use lib.Dec.{leb, eqb}
 use lib.ListN.{length, getD, drop}
 use Rattle.words.specs.CaseLaws.{lt-or-le}
 use Rattle.words.specs.ListLaws.{below-in, below-past, in-nil}
-use Rattle.words.specs.Tests.{all, zeros}
+use Rattle.words.specs.Tests.{zeros}
 use Rattle.words.specs.TestLaws.{and-left, and-right, and-both, all-at, all-make}
-use Rattle.logs.specs.Write.{Write}
 use Rattle.logs.specs.Ascending.{ascending-nil}
 use Rattle.logs.specs.Places.{width, places}
 use Rattle.logs.specs.PlacesLaws.{length-entries, zeros-places}
 use Rattle.tables.specs.Size.{Size, within}
-use Rattle.tables.specs.State.{State, Slot, closed, empty}
-use Rattle.tables.specs.Layout.{size, sizeOf, encode, decode, countAt, logPart, slotPart, slotOf}
-use Rattle.tables.specs.Sound.{ruleA, ruleB, ruleC, ruleD, ruleE, ruleF, slotSound, soundAt, sound}
+use Rattle.tables.specs.State.{State, closed, empty}
+use Rattle.tables.specs.Layout.{size, sizeOf, encode, decode, countAt, logPart, slotPart}
+use Rattle.tables.specs.Sound.{ruleA, ruleB, ruleC, ruleD, ruleE, ruleF, soundAt, sound}
 use Rattle.tables.specs.Make.{fresh}
 use Rattle.tables.specs.MakeLaws.{fresh-encode}
 use Rattle.tables.specs.SoundState.{SoundState, SoundSlot}

@@ -1,9 +1,9 @@
 -- What stands at each offset of a slot and of a log's places, and 01's example of the length. Assumes nothing.
-use Prim.Native.Nat.{ℕ, suc, _+_, _*_, _<_, _≤_}
+use Prim.Native.Nat.{ℕ, suc, _+_, _*_, _<_}
 use mathlib.Core.List.{List}
 use mathlib.Core.Path.{_≡_, refl, sym, _∙_, ap}
 use native.Mathlib.Omega.{arith}
-use lib.ListN.{length, getD, getD-replicate}
+use lib.ListN.{getD, getD-replicate}
 use Rattle.words.specs.BlockLaws.{cell}
 use Rattle.words.specs.PartLaws.{getD-part}
 use Rattle.logs.specs.Places.{width, places}

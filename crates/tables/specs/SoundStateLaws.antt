@@ -8,11 +8,9 @@ use mathlib.Core.Path.{_≡_, refl, sym, _∙_, ap, subst}
 use native.Mathlib.Omega.{arith}
 use borrow.Author.Tests.{eqb-true, eq-eqb, ne-eqb, leb-true, le-leb}
 use lib.Dec.{leb, eqb}
-use lib.ListN.{length, getD, replicate, getD-replicate, List·getD-append}
-use lib.Seq.{getD-append-add}
-use Rattle.words.specs.Lists.{In, row, below}
+use lib.ListN.{length, getD, replicate, getD-replicate}
+use Rattle.words.specs.Lists.{In, below}
 use Rattle.words.specs.ListLaws.{in-nil, below-in, below-past}
-use Rattle.words.specs.RowLaws.{length-row, getD-row}
 use Rattle.words.specs.CaseLaws.{lt-or-le}
 use Rattle.words.specs.Tests.{all, zeros}
 use Rattle.words.specs.TestLaws.{cond-true, cond-false, and-left, and-right, and-both, all-at, all-make, replicate-zeros}
@@ -24,7 +22,7 @@ use Rattle.logs.specs.Rules.{greatestOf}
 use Rattle.logs.specs.OrderedLaws.{Ordered, ordered-nil, ordered-true, true-ordered}
 use Rattle.logs.specs.RulesLaws.{Agreed, agrees-true, true-agrees, greatest-covers, greatest-attained, greatest-unique}
 use Rattle.tables.specs.Size.{Size, items, sums}
-use Rattle.tables.specs.State.{State, Session, Slot, closed, opened}
+use Rattle.tables.specs.State.{State, Slot, closed, opened}
 use Rattle.tables.specs.Layout.{slotPart, slotWords, sessionOf, slotOf}
 use Rattle.tables.specs.Sound.{ruleC, ruleD, ruleE, ruleF, slotSound}
 use Rattle.tables.specs.SlotLaws.{slot-readVector, slot-writeVector}

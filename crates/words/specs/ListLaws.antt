@@ -6,11 +6,11 @@ use mathlib.Core.Logic.{_⊎_, inl, inr, ⊎-elim}
 use mathlib.Core.Option.{Option, none, some}
 use mathlib.Core.Path.{_≡_, refl, sym, _∙_, ap, subst, fun-ext}
 use native.Mathlib.Omega.{arith}
-use borrow.Author.Tests.{eqb-true, eq-eqb, ne-eqb, lt-ltb, le-ltb, ltb-true, ltb-false}
+use borrow.Author.Tests.{eqb-true, eq-eqb, ne-eqb, lt-ltb, le-ltb, ltb-true, ltb-false, eqb-false}
 use lib.Dec.{eqb, ltb}
-use lib.ListN.{length, take, drop}
+use lib.ListN.{take}
 use Rattle.words.specs.Lists.{In, here, there, keep, first, upd, below}
-use Rattle.words.specs.TestLaws.{either, true-not-false, cond-elim, cond-true, cond-false}
+use Rattle.words.specs.TestLaws.{either, cond-elim, cond-true, cond-false}
 
 -- ---- membership
 
@@ -153,7 +153,7 @@ upd-other f i a k e = cond-false (eqb k i) _ _ (ne-eqb k i e)
 pub upd-elim : {A : Type 0} (P : A → Type 0) (f : ℕ → A) (i : ℕ) (a : A) (k : ℕ) → (k ≡ i → P a) → ((k ≡ i → ⊥) → P (f k)) → P (upd f i a k)
 unfolding upd
 upd-elim P f i a k at off =
-    cond-elim P (eqb k i) (λ e. at (eqb-true k i e)) (λ e. off (borrow.Author.Tests.eqb-false k i e))
+    cond-elim P (eqb k i) (λ e. at (eqb-true k i e)) (λ e. off (eqb-false k i e))
 
 pub below-in : {A : Type 0} (n : ℕ) (f : ℕ → A) (past : A) (k : ℕ) → k < n → below n f past k ≡ f k
 unfolding below

@@ -1,16 +1,16 @@
 -- What holds of a function's first values as a list, and of blocks of one width, one behind the other. Assumes nothing.
-use Prim.Native.Nat.{ℕ, zero, suc, _+_, _*_, _<_, _≤_}
+use Prim.Native.Nat.{ℕ, zero, suc, _+_, _*_, _<_}
 use mathlib.Core.List.{List, [], _∷_, _++_, append-nil}
 use mathlib.Core.Logic.{_⊎_, inl, inr, ⊎-elim}
-use mathlib.Core.Path.{_≡_, refl, sym, _∙_, ap, ap₂, subst}
+use mathlib.Core.Path.{_≡_, refl, sym, _∙_, ap, ap₂}
 use native.Mathlib.Numerals.{add-one}
 use native.Mathlib.Omega.{arith}
 use native.Mathlib.Nat.{suc-mul, zero-mul}
 use borrow.Author.Tests.{eqb-true, eqb-false}
 use lib.Dec.{eqb}
-use lib.ListN.{length, getD, set, take, drop, length-append, List·getD-append, drop-of-length-le}
-use lib.Seq.{ext-getD, getD-at, set-at, drop-cons, append-snoc, drop-append-le, take-append-le, drop-at, take-at, drop-append-add, length-take-le, take-all}
-use Rattle.words.specs.Lists.{row, blocks, part}
+use lib.ListN.{length, getD, set, drop, length-append, List·getD-append, drop-of-length-le}
+use lib.Seq.{ext-getD, getD-at, set-at, drop-cons, append-snoc}
+use Rattle.words.specs.Lists.{row, blocks}
 use Rattle.words.specs.TestLaws.{either}
 
 -- A number below suc n is below n or is n.

@@ -1,11 +1,11 @@
 -- What holds of tests. Assumes nothing.
 use Prim.Native.Nat.{ℕ, zero, suc, _<_}
-use mathlib.Core.Bool.{Bool, true, false, not, cond, _&&_, _||_}
-use mathlib.Core.List.{List, [], _∷_, _++_}
+use mathlib.Core.Bool.{Bool, true, false, cond, _&&_, _||_}
+use mathlib.Core.List.{List, [], _∷_}
 use mathlib.Core.Logic.{_⊎_, inl, inr, ⊎-elim}
-use mathlib.Core.Path.{_≡_, refl, sym, _∙_, ap, subst}
+use mathlib.Core.Path.{_≡_, refl, sym, _∙_, ap, subst, ap₂}
 use native.Mathlib.Omega.{arith}
-use borrow.Author.Tests.{eqb-true, eq-eqb}
+use borrow.Author.Tests.{eqb-true, eqb-false}
 use lib.Dec.{eqb}
 use lib.ListN.{length, replicate}
 use Rattle.words.specs.Tests.{all, zeros, implies}
@@ -82,7 +82,7 @@ all-at zero passes h k l = absurd (omega arith)
 all-at (suc n) passes h k l =
     ⊎-elim
     (λ (e : eqb k n ≡ true). subst (λ (m : ℕ). passes m ≡ true) (sym (eqb-true k n e)) (and-right (all n passes) (passes n) h))
-    (λ (e : eqb k n ≡ false). all-at n passes (and-left (all n passes) (passes n) h) k (omega (arith, borrow.Author.Tests.eqb-false k n e)))
+    (λ (e : eqb k n ≡ false). all-at n passes (and-left (all n passes) (passes n) h) k (omega (arith, eqb-false k n e)))
     (either (eqb k n))
 
 pub all-make : (n : ℕ) (passes : ℕ → Bool) → ((k : ℕ) → k < n → passes k ≡ true) → all n passes ≡ true
@@ -95,7 +95,7 @@ all-make (suc n) passes h =
 pub all-cong : (n : ℕ) (p q : ℕ → Bool) → ((k : ℕ) → k < n → p k ≡ q k) → all n p ≡ all n q
 unfolding all
 all-cong zero p q h = refl
-all-cong (suc n) p q h = mathlib.Core.Path.ap₂ (λ a b. a && b) (all-cong n p q (λ k l. h k (omega arith))) (h n (omega arith))
+all-cong (suc n) p q h = ap₂ (λ a b. a && b) (all-cong n p q (λ k l. h k (omega arith))) (h n (omega arith))
 
 -- ---- zeros
 
@@ -103,7 +103,7 @@ pub zeros-replicate : (ws : List ℕ) → zeros ws ≡ true → ws ≡ replicate
 unfolding zeros
 zeros-replicate [] h = refl
 zeros-replicate (w ∷ ws) h =
-    mathlib.Core.Path.ap₂ {B = List ℕ} (λ x xs. x ∷ xs) (eqb-true w 0 (and-left (eqb w 0) (zeros ws) h)) (zeros-replicate ws (and-right (eqb w 0) (zeros ws) h))
+    ap₂ {B = List ℕ} (λ x xs. x ∷ xs) (eqb-true w 0 (and-left (eqb w 0) (zeros ws) h)) (zeros-replicate ws (and-right (eqb w 0) (zeros ws) h))
 
 pub replicate-zeros : (n : ℕ) → zeros (replicate n 0) ≡ true
 unfolding zeros

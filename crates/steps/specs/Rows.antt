@@ -14,7 +14,7 @@ use Rattle.tables.specs.State.{withVector, withLog, withSlot}
 use Rattle.tables.specs.Layout.{header, vectorAt, countAt, logAt, slotWidth, slotAt, size, headWords, slotWords, encode, sizeOf, logPart, slotPart, sessionOf, slotOf, decode}
 use Rattle.tables.specs.Sound.{ruleA, ruleB, ruleC, ruleD, ruleE, slotSound, ruleF, soundAt, sound}
 use Rattle.tables.specs.Make.{fresh}
-use Rattle.steps.specs.Step.{Step, Answer, reachInRange, openInRange, closeInRange, readInRange, writeInRange, exchangeInRange, ofKind, asked, refused, done}
+use Rattle.steps.specs.Step.{Step, Answer, reachInRange, openInRange, closeInRange, readInRange, writeInRange, exchangeInRange, ifInRange, ofKind, asked, refused, done}
 use Rattle.steps.specs.Choice.{readYourWrites, monotonicReads, writesFollowReads, monotonicWrites, upToDateToRead, upToDateToWrite, reaches, startOf, next, onwards, around, choose}
 use Rattle.steps.specs.Rules.{refuse, newSession, opening, closing, readAnswer, afterRead, readFrom, reading, newWrite, afterWrite, accepted, writeAnswer, writeTo, hasRoom, writing, goingOver, sent, received, exchangeAnswer, exchanging, obeyed, rule}
 use Rattle.steps.specs.Calls.{written, step, onward, walk}
@@ -48,5 +48,5 @@ rows =
 
 -- The rules give each row its answer.
 pub ten-rows : walk (fresh (record { n = 2; l = 4; p = 1 })) (map (λ r. r .asks) rows) .answers ≡ map (λ r. r .gets) rows
-unfolding keep first orElse blocks row part upd below all zeros implies dominates join greatest before same insert insertAll lastOn lacking follow inRange goesOn ordered ofOrigin upTo greatestClock greatestOf sameAll agrees spelled places entry entries within withVector withLog withSlot header vectorAt countAt logAt slotWidth slotAt size headWords slotWords encode sizeOf logPart slotPart sessionOf slotOf decode ruleA ruleB ruleC ruleD ruleE slotSound ruleF soundAt sound fresh reachInRange openInRange closeInRange readInRange writeInRange exchangeInRange ofKind asked refused done readYourWrites monotonicReads writesFollowReads monotonicWrites upToDateToRead upToDateToWrite reaches startOf next onwards around choose refuse newSession opening closing readAnswer afterRead readFrom reading newWrite afterWrite accepted writeAnswer writeTo hasRoom writing goingOver sent received exchangeAnswer exchanging obeyed rule written step onward walk
+unfolding keep first orElse blocks row part upd below all zeros implies dominates join greatest before same insert insertAll lastOn lacking follow inRange goesOn ordered ofOrigin upTo greatestClock greatestOf sameAll agrees spelled places entry entries within withVector withLog withSlot header vectorAt countAt logAt slotWidth slotAt size headWords slotWords encode sizeOf logPart slotPart sessionOf slotOf decode ruleA ruleB ruleC ruleD ruleE slotSound ruleF soundAt sound fresh reachInRange openInRange closeInRange readInRange writeInRange exchangeInRange ifInRange ofKind asked refused done readYourWrites monotonicReads writesFollowReads monotonicWrites upToDateToRead upToDateToWrite reaches startOf next onwards around choose refuse newSession opening closing readAnswer afterRead readFrom reading newWrite afterWrite accepted writeAnswer writeTo hasRoom writing goingOver sent received exchangeAnswer exchanging obeyed rule written step onward walk
 ten-rows = refl

@@ -61,10 +61,8 @@ readFrom s k item q (some i) =
 unfoldable pub reading : Size → State → ℕ → ℕ → ℕ → Slot → Outcome
 reading z s k item reach closed = refuse 3 s
 reading z s k item reach (opened q) =
-    cond
-    (eqb reach 0)
-    (refuse 5 s)
-    (readFrom s k item q (choose (z .n) (startOf q) reach (λ i. upToDateToRead (z .n) q (s .vector i))))
+    let current = choose (z .n) (startOf q) reach (λ i. upToDateToRead (z .n) q (s .vector i)) in
+    cond (eqb reach 0) (refuse 5 s) (readFrom s k item q current)
 
 -- ---- write
 
@@ -80,10 +78,9 @@ afterWrite q i clock =
 -- "The write is added at the end".
 unfoldable pub accepted : State → ℕ → Session → ℕ → Write → State
 accepted s k q i w =
-    withSlot
-    (withVector (withLog s i (s .log i ++ (w ∷ []))) i (upd (s .vector i) i (w .clock)))
-    k
-    (opened (afterWrite q i (w .clock)))
+    let stored = withLog s i (s .log i ++ (w ∷ [])) in
+    let known = withVector stored i (upd (s .vector i) i (w .clock)) in
+    withSlot known k (opened (afterWrite q i (w .clock)))
 
 -- "Answers server, origin (the same server), clock, value."
 unfoldable pub writeAnswer : ℕ → Write → Answer
@@ -101,21 +98,13 @@ writeTo z s k item value q (some i) (some j) =
 unfoldable pub hasRoom : Size → State → ℕ → Bool
 hasRoom z s i = ltb (length (s .log i)) (z .l)
 
+-- Code 3, 5, and then the two searches.
 unfoldable pub writing : Size → State → ℕ → ℕ → ℕ → ℕ → Slot → Outcome
 writing z s k item value reach closed = refuse 3 s
 writing z s k item value reach (opened q) =
-    cond
-    (eqb reach 0)
-    (refuse 5 s)
-    (writeTo
-    z
-    s
-    k
-    item
-    value
-    q
-    (choose (z .n) (startOf q) reach (λ i. upToDateToWrite (z .n) q (s .vector i)))
-    (choose (z .n) (startOf q) reach (λ i. upToDateToWrite (z .n) q (s .vector i) && hasRoom z s i)))
+    let current = choose (z .n) (startOf q) reach (λ i. upToDateToWrite (z .n) q (s .vector i)) in
+    let roomy = choose (z .n) (startOf q) reach (λ i. upToDateToWrite (z .n) q (s .vector i) && hasRoom z s i) in
+    cond (eqb reach 0) (refuse 5 s) (writeTo z s k item value q current roomy)
 
 -- ---- exchange
 
@@ -140,13 +129,9 @@ exchangeAnswer source target k = record { code = 0; server = target; origin = so
 -- Code 4: "exchange from a server to itself".
 unfoldable pub exchanging : Size → State → ℕ → ℕ → ℕ → Outcome
 exchanging z s source target most =
-    cond
-    (eqb source target)
-    (refuse 4 s)
-    (record {
-      answer = exchangeAnswer source target (goingOver z s source target most);
-      state = received s target (sent z s source target most);
-    })
+    let answer = exchangeAnswer source target (goingOver z s source target most) in
+    let state = received s target (sent z s source target most) in
+    cond (eqb source target) (refuse 4 s) (record { answer = answer; state = state })
 
 -- ---- any step
 

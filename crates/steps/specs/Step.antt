@@ -47,22 +47,19 @@ writeInRange z x = ltb (x .a) (z .p) && (ltb (x .b) items && reachInRange (z .n)
 unfoldable pub exchangeInRange : Size → Step → Bool
 exchangeInRange z x = ltb (x .a) (z .n) && (ltb (x .b) (z .n) && eqb (x .d) 0)
 
+-- What is asked if the arguments are in range.
+unfoldable pub ifInRange : Bool → Op → Op
+ifInRange inRange o = cond inRange o bad
+
 -- "The step is told apart by its kind, 1 to 5."
 unfoldable pub ofKind : Size → Step → ℕ → Op
 ofKind z x kind =
-    cond
-    (eqb kind 1)
-    (cond (openInRange z x) (opens (x .a) (x .b)) bad)
-    (cond
-    (eqb kind 2)
-    (cond (closeInRange z x) (closes (x .a)) bad)
-    (cond
-    (eqb kind 3)
-    (cond (readInRange z x) (reads (x .a) (x .b) (x .c)) bad)
-    (cond
-    (eqb kind 4)
-    (cond (writeInRange z x) (writes (x .a) (x .b) (x .c) (x .d)) bad)
-    (cond (eqb kind 5) (cond (exchangeInRange z x) (exchanges (x .a) (x .b) (x .c)) bad) bad))))
+    cond (eqb kind 1) (ifInRange (openInRange z x) (opens (x .a) (x .b)))
+    (cond (eqb kind 2) (ifInRange (closeInRange z x) (closes (x .a)))
+    (cond (eqb kind 3) (ifInRange (readInRange z x) (reads (x .a) (x .b) (x .c)))
+    (cond (eqb kind 4) (ifInRange (writeInRange z x) (writes (x .a) (x .b) (x .c) (x .d)))
+    (cond (eqb kind 5) (ifInRange (exchangeInRange z x) (exchanges (x .a) (x .b) (x .c)))
+    bad))))
 
 unfoldable pub asked : Size → Step → Op
 asked z x = ofKind z x (x .kind)

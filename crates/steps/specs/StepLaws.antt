@@ -8,7 +8,7 @@ use borrow.Author.Tests.{ltb-true, eqb-true}
 use lib.Dec.{eqb}
 use Rattle.words.specs.TestLaws.{cond-elim, and-left, and-right}
 use Rattle.tables.specs.Size.{Size, items, sums}
-use Rattle.steps.specs.Step.{Step, Op, bad, opens, closes, reads, writes, exchanges, reachInRange, openInRange, closeInRange, readInRange, writeInRange, exchangeInRange, ofKind, asked}
+use Rattle.steps.specs.Step.{Step, Op, bad, opens, closes, reads, writes, exchanges, reachInRange, openInRange, closeInRange, readInRange, writeInRange, exchangeInRange, ifInRange, ofKind, asked}
 
 -- The arguments of what is asked lie in their ranges.
 abbrev pub InRange : Size → Op → Type 0
@@ -29,7 +29,7 @@ module _ (z : Size) (x : Step) where
       → (x .kind ≡ 5 → exchangeInRange z x ≡ true → P (exchanges (x .a) (x .b) (x .c)))
       → P bad
       → P (asked z x)
-  unfolding asked ofKind
+  unfolding asked ofKind ifInRange
   by-kind P p₁ p₂ p₃ p₄ p₅ p =
       row
       1
@@ -57,7 +57,7 @@ module _ (z : Size) (x : Step) where
       p₄
       (row 5 (exchangeInRange z x) (exchanges (x .a) (x .b) (x .c)) bad p₅ p))))
     where
-      row : (kind : ℕ) (guard : Bool) (o rest : Op) → (x .kind ≡ kind → guard ≡ true → P o) → P rest → P (cond (eqb (x .kind) kind) (cond guard o bad) rest)
+      row : (kind : ℕ) (guard : Bool) (o rest : Op) → (x .kind ≡ kind → guard ≡ true → P o) → P rest → P (cond (eqb (x .kind) kind) (ifInRange guard o) rest)
       row kind guard o rest here there =
           cond-elim
           P

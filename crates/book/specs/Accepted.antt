@@ -43,9 +43,7 @@ module _ {z : Size} {s : State} {t : List ℕ} (means : Means z s t) (x : Step) 
 
   pub read-did : (i : ℕ) → Reads t x k i → ReadDone z s k (x .b) (x .c) (rule z s x .answer) (rule z s x .state)
   read-did i r =
-      subst
-      (λ (m : ℕ). ReadDone z s m (x .b) (x .c) (rule z s x .answer) (rule z s x .state))
-      (r .slot)
+      subst (λ (m : ℕ). ReadDone z s m (x .b) (x .c) (rule z s x .answer) (rule z s x .state)) (r .slot)
       (read-done (accepted-effect (r .accepted) (reads (x .a) (x .b) (x .c)) (asked-read z x (r .kind))) (accepted-rule (r .accepted)))
 
   pub read-at : (i : ℕ) (r : Reads t x k i) → read-did i r .server ≡ i
@@ -56,13 +54,8 @@ module _ {z : Size} {s : State} {t : List ℕ} (means : Means z s t) (x : Step) 
 
   pub write-did : (w : Write) → Writes t x k w → WriteDone z s k (x .b) (x .c) (x .d) (rule z s x .answer) (rule z s x .state)
   write-did w r =
-      subst
-      (λ (m : ℕ). WriteDone z s m (x .b) (x .c) (x .d) (rule z s x .answer) (rule z s x .state))
-      (r .slot)
-      (write-done
-      (means .state)
-      (accepted-effect (r .accepted) (writes (x .a) (x .b) (x .c) (x .d)) (asked-write z x (r .kind)))
-      (accepted-rule (r .accepted)))
+      subst (λ (m : ℕ). WriteDone z s m (x .b) (x .c) (x .d) (rule z s x .answer) (rule z s x .state)) (r .slot) (write-done (means .state)
+      (accepted-effect (r .accepted) (writes (x .a) (x .b) (x .c) (x .d)) (asked-write z x (r .kind))) (accepted-rule (r .accepted)))
 
   -- The write made is the one answered.
   pub write-is : (w : Write) (r : Writes t x k w) → w ≡ newWrite z s (write-did w r .server) (x .b) (x .c)
@@ -70,6 +63,4 @@ module _ {z : Size} {s : State} {t : List ℕ} (means : Means z s t) (x : Step) 
   write-is w r =
       let d : WriteDone z s k (x .b) (x .c) (x .d) (rule z s x .answer) (rule z s x .state) = write-did w r in
       r .made
-      ∙ ap
-      (λ (a : Answer). record { origin = a .origin; clock = a .clock; item = x .b; value = x .c })
-      (step-answer means x ∙ d .answered)
+      ∙ ap (λ (a : Answer). record { origin = a .origin; clock = a .clock; item = x .b; value = x .c }) (step-answer means x ∙ d .answered)

@@ -40,9 +40,7 @@ pub includes-at : (list set : List Write) → includes list set ≡ true → (w 
 unfolding includes
 includes-at list [] e = λ w h. in-nil h
 includes-at list (x ∷ xs) e =
-    each
-    (λ (y : Write). In y list)
-    (member-in x list (and-left (member x list) (includes list xs) e))
+    each (λ (y : Write). In y list) (member-in x list (and-left (member x list) (includes list xs) e))
     (includes-at list xs (and-right (member x list) (includes list xs) e))
 
 pub includes-make : (list set : List Write) → ((w : Write) → In w set → In w list) → includes list set ≡ true
@@ -72,9 +70,7 @@ missing-in {w} other h k = keep-in (λ x. not (member x other)) h (ap not (not-t
 pub not-before-trans : (w x y : Write) → before w x ≡ false → before x y ≡ false → before w y ≡ false
 unfolding before
 not-before-trans w x y p q =
-    not-true-false
-    (before w y)
-    (λ e. true-not-false (⊎-elim (λ b. before-trans x w y b e) (λ k. keyed k e) (before-total w x p)) q)
+    not-true-false (before w y) (λ e. true-not-false (⊎-elim (λ b. before-trans x w y b e) (λ k. keyed k e) (before-total w x p)) q)
   where
     keyed : SameKey w x → before w y ≡ true → before x y ≡ true
     keyed k e = sym (ap₂ (λ c o. ltb c (y .clock) || eqb c (y .clock) && ltb o (y .origin)) (k .0) (k .1)) ∙ e
@@ -98,9 +94,6 @@ pub latestClock-attained : (ws : List Write) → (latestClock ws ≡ 0) ⊎ Time
 unfolding latestClock
 latestClock-attained [] = inl refl
 latestClock-attained (w ∷ ws) =
-    max-cases
-    (w .clock)
-    (latestClock ws)
-    _
+    max-cases (w .clock) (latestClock ws) _
     (λ l e. ⊎-elim (λ z. inl (e ∙ z)) (λ t. inr (record { write = t .write; stored = there (t .stored); timed = t .timed ∙ sym e })) (latestClock-attained ws))
     (λ l e. inr (record { write = w; stored = here refl; timed = sym e }))

@@ -6,7 +6,7 @@ use mathlib.Core.List.{List, [], _∷_, _++_}
 use mathlib.Core.Path.{_≡_, sym, _∙_, ap, subst}
 use Rattle.logs.specs.Write.{Write, before}
 use Rattle.tables.specs.Size.{Size, within}
-use Rattle.tables.specs.State.{empty}
+use Rattle.tables.specs.State.{State, empty}
 use Rattle.tables.specs.Make.{fresh}
 use Rattle.tables.specs.Meaning.{Means}
 use Rattle.tables.specs.MeaningLaws.{fresh-means}
@@ -42,19 +42,34 @@ module _ (z : Size) (limits : within z ≡ true) (pre : List Step) (x : Step) (m
       ∙ (ap (λ t. after t (y ∷ post)) (after-append (fresh z) pre (x ∷ mid) ∙ after-append t₁ (x ∷ []) mid) ∙ after-append t₃ (y ∷ []) post)
 
   -- The states that they mean.
-  m₁ : Means z (stateAfter z empty pre) t₁
+  abbrev s₁ : State
+  s₁ = stateAfter z empty pre
+
+  abbrev s₂ : State
+  s₂ = stateAfter z s₁ (x ∷ [])
+
+  abbrev s₃ : State
+  s₃ = stateAfter z s₂ mid
+
+  abbrev s₄ : State
+  s₄ = stateAfter z s₃ (y ∷ [])
+
+  abbrev s₅ : State
+  s₅ = stateAfter z s₄ post
+
+  m₁ : Means z s₁ t₁
   m₁ = means-after (fresh-means z limits) pre
 
-  m₂ : Means z (stateAfter z (stateAfter z empty pre) (x ∷ [])) t₂
+  m₂ : Means z s₂ t₂
   m₂ = means-after m₁ (x ∷ [])
 
-  m₃ : Means z (stateAfter z (stateAfter z (stateAfter z empty pre) (x ∷ [])) mid) t₃
+  m₃ : Means z s₃ t₃
   m₃ = means-after m₂ mid
 
-  m₄ : Means z (stateAfter z (stateAfter z (stateAfter z (stateAfter z empty pre) (x ∷ [])) mid) (y ∷ [])) t₄
+  m₄ : Means z s₄ t₄
   m₄ = means-after m₃ (y ∷ [])
 
-  m₅ : Means z (stateAfter z (stateAfter z (stateAfter z (stateAfter z (stateAfter z empty pre) (x ∷ [])) mid) (y ∷ [])) post) t₅
+  m₅ : Means z s₅ t₅
   m₅ = means-after m₄ post
 
   -- Read Your Writes. 002, 3.1: "If Read R follows Write W in a session and R is performed at server S at time t, then W is included in
@@ -62,17 +77,7 @@ module _ (z : Size) (limits : within z ≡ true) (pre : List Step) (x : Step) (m
   pub read-your-writes : (k j : ℕ) (w : Write) → Writes t₁ x k w → Lasts k t₂ mid → Reads t₃ y k j → Chose t₃ k readYourWrites → Stores t₃ j w
   unfolding stateAfter
   read-your-writes k j w wrote lasts read chose =
-      read-served
-      m₃
-      y
-      k
-      w
-      readYourWrites
-      (λ q. q .writeVector)
-      (checked-ryw (z .n))
-      j
-      read
-      chose
+      read-served m₃ y k w readYourWrites (λ q. q .writeVector) (checked-ryw (z .n)) j read chose
       (write-after m₂ k mid lasts w (write-remembers m₁ x k w wrote))
 
   -- Monotonic Reads. 002, 3.2: "If Read R1 occurs before R2 in a session and R1 accesses server S1 at time t1 and R2 accesses server S2 at
@@ -81,25 +86,13 @@ module _ (z : Size) (limits : within z ≡ true) (pre : List Step) (x : Step) (m
       → (w : Write) → DependsOn t₁ x i w → Stores t₃ j w
   unfolding stateAfter
   monotonic-reads k i j first lasts second chose w depends =
-      read-served
-      m₃
-      y
-      k
-      w
-      monotonicReads
-      (λ q. q .readVector)
-      (checked-mr (z .n))
-      j
-      second
-      chose
+      read-served m₃ y k w monotonicReads (λ q. q .readVector) (checked-mr (z .n)) j second chose
       (read-after m₂ k mid lasts w (read-remembers m₁ x k i first w depends))
 
   -- What a write is behind when it is made it is behind at every later moment and at every server.
-  behind-for-ever : (w₁ w₂ : Write) → Precedes (stateAfter z (stateAfter z (stateAfter z (stateAfter z empty pre) (x ∷ [])) mid) (y ∷ [])) w₁ w₂
-      → (j : ℕ) → Stores t₅ j w₂ → Stores t₅ j w₁ × (before w₁ w₂ ≡ true)
+  behind-for-ever : (w₁ w₂ : Write) → Precedes s₄ w₁ w₂ → (j : ℕ) → Stores t₅ j w₂ → Stores t₅ j w₁ × (before w₁ w₂ ≡ true)
   behind-for-ever w₁ w₂ p j m =
-      let q : Precedes (stateAfter z (stateAfter z (stateAfter z (stateAfter z (stateAfter z empty pre) (x ∷ [])) mid) (y ∷ [])) post) w₁ w₂ =
-      precedes-after m₄ post w₁ w₂ p in
+      let q : Precedes s₅ w₁ w₂ = precedes-after m₄ post w₁ w₂ p in
       (stores m₅ j w₁ (q .along j (stored m₅ j w₂ m)), q .ordered)
 
   -- Writes Follow Reads. 002, 3.3: "If Read R1 precedes Write W2 in a session and R1 is performed at server S1 at time t1, then, for any
@@ -109,20 +102,7 @@ module _ (z : Size) (limits : within z ≡ true) (pre : List Step) (x : Step) (m
       → (w₁ : Write) → DependsOn t₁ x i w₁ → (j : ℕ) → Stores t₅ j w₂ → Stores t₅ j w₁ × (before w₁ w₂ ≡ true)
   unfolding stateAfter
   writes-follow-reads k i w₂ read lasts wrote chose w₁ depends =
-      behind-for-ever
-      w₁
-      w₂
-      (write-served
-      m₃
-      y
-      k
-      w₁
-      writesFollowReads
-      (λ q. q .readVector)
-      (checked-wfr (z .n))
-      w₂
-      wrote
-      chose
+      behind-for-ever w₁ w₂ (write-served m₃ y k w₁ writesFollowReads (λ q. q .readVector) (checked-wfr (z .n)) w₂ wrote chose
       (read-after m₂ k mid lasts w₁ (read-remembers m₁ x k i read w₁ depends)))
 
   -- Monotonic Writes. 002, 3.4: "If Write W1 precedes Write W2 in a session, then, for any server S2, if W2 is in DB(S2) then W1 is also
@@ -131,20 +111,7 @@ module _ (z : Size) (limits : within z ≡ true) (pre : List Step) (x : Step) (m
       → (j : ℕ) → Stores t₅ j w₂ → Stores t₅ j w₁ × (before w₁ w₂ ≡ true)
   unfolding stateAfter
   monotonic-writes k w₁ w₂ first lasts second chose =
-      behind-for-ever
-      w₁
-      w₂
-      (write-served
-      m₃
-      y
-      k
-      w₁
-      monotonicWrites
-      (λ q. q .writeVector)
-      (checked-mw (z .n))
-      w₂
-      second
-      chose
+      behind-for-ever w₁ w₂ (write-served m₃ y k w₁ monotonicWrites (λ q. q .writeVector) (checked-mw (z .n)) w₂ second chose
       (write-after m₂ k mid lasts w₁ (write-remembers m₁ x k w₁ first)))
 
 -- No server ever loses a write: what is stored at one moment is stored at every later one.
@@ -152,7 +119,5 @@ pub never-lost : (z : Size) → within z ≡ true → (pre post : List Step) (i 
     → Stores (after (fresh z) (pre ++ post)) i w
 never-lost z limits pre post i w m =
     let m₁ : Means z (stateAfter z empty pre) (after (fresh z) pre) = means-after (fresh-means z limits) pre in
-    subst
-    (λ (t : List ℕ). Stores t i w)
-    (sym (after-append (fresh z) pre post))
+    subst (λ (t : List ℕ). Stores t i w) (sym (after-append (fresh z) pre post))
     (stores (means-after m₁ post) i w (kept-after m₁ post i w (stored m₁ i w m)))

@@ -33,12 +33,7 @@ use Rattle.book.specs.Matching.{Covers, MatchingSession, Matching}
 -- Of the least of a list's length and two numbers the length does not count.
 pub take-least : {A : Type 0} (xs : List A) (k l : ℕ) → take (min (min (length xs) k) l) xs ≡ take (min k l) xs
 take-least xs k l =
-    max-cases
-    (length xs)
-    (min k l)
-    _
-    (λ h e. take-all (min (min (length xs) k) l) xs (omega arith) ∙ sym (take-all (min k l) xs h))
-    (λ h e.
+    max-cases (length xs) (min k l) _ (λ h e. take-all (min (min (length xs) k) l) xs (omega arith) ∙ sym (take-all (min k l) xs h)) (λ h e.
     let q : min (min (length xs) k) l ≡ min k l = omega arith in
     ap (λ j. take j xs) q)
 
@@ -52,9 +47,7 @@ module _ {z : Size} {s : State} {b : Book} (sound : SoundState z s) (m : Matchin
   -- Domination by a server's vector is inclusion in what the server holds.
   pub dominates-includes : (i : ℕ) {set : List Write} {v : ℕ → ℕ} → Covers s set v → dominates (z .n) (s .vector i) v ≡ includes (held b i) set
   dominates-includes i {set} {v} c =
-      same-test
-      (dominates (z .n) (s .vector i) v)
-      (includes (held b i) set)
+      same-test (dominates (z .n) (s .vector i) v) (includes (held b i) set)
       (λ e. includes-make (held b i) set (λ w h. m .members i .over w (sound .complete i w (c .real w h) (below e w h))))
       (λ e. dominates-make (z .n) (s .vector i) v (λ j l. ⊎-elim (λ p. omega arith) (λ f. held-below e j f) (c .reached j)))
     where
@@ -76,9 +69,7 @@ module _ {z : Size} {s : State} {b : Book} (sound : SoundState z s) (m : Matchin
       → (implies (onRead (q .guarantees)) (dominates (z .n) (s .vector i) (q .readVector)) && implies (onWrite (q .guarantees)) (dominates (z .n) (s .vector i) (q .writeVector)))
       ≡ (implies (onRead (r .guarantees)) (includes (held b i) (r .readSet)) && implies (onWrite (r .guarantees)) (includes (held b i) (r .writeSet)))
   checked c onRead onWrite i =
-      ap₂
-      _&&_
-      (ap₂ implies (ap onRead (c .chosen)) (dominates-includes i (c .readCovers)))
+      ap₂ _&&_ (ap₂ implies (ap onRead (c .chosen)) (dominates-includes i (c .readCovers)))
       (ap₂ implies (ap onWrite (c .chosen)) (dominates-includes i (c .writeCovers)))
 
   -- Figure 1 of 002 by vectors and by sets: who may serve a read, who a write, and who has a free place besides.
@@ -101,21 +92,12 @@ module _ {z : Size} {s : State} {b : Book} (sound : SoundState z s) (m : Matchin
     where
       at-most : greatest (z .n) (s .vector i) ≤ latestClock (held b i)
       at-most =
-          greatest-least
-          (z .n)
-          (s .vector i)
-          (latestClock (held b i))
-          (λ j l.
-          ⊎-elim
-          (λ e. omega arith)
-          (λ f. omega (arith, f .timed, latestClock-above (m .members i .over (f .write) (f .stored))))
-          (sound .attained i j))
+          greatest-least (z .n) (s .vector i) (latestClock (held b i)) (λ j l. ⊎-elim (λ e. omega arith)
+          (λ f. omega (arith, f .timed, latestClock-above (m .members i .over (f .write) (f .stored)))) (sound .attained i j))
 
       at-least : latestClock (held b i) ≤ greatest (z .n) (s .vector i)
       at-least =
-          ⊎-elim
-          (λ e. omega arith)
-          (λ f.
+          ⊎-elim (λ e. omega arith) (λ f.
           let h = m .members i .back (f .write) (f .stored) in
           omega (arith, f .timed, sound .covered i (f .write) h, greatest-above (z .n) (s .vector i) (f .write .origin) (sound .origins i (f .write) h)))
           (latestClock-attained (held b i))
@@ -130,31 +112,15 @@ module _ {z : Size} {s : State} {b : Book} (sound : SoundState z s) (m : Matchin
   lacking-missing source target =
       record {
         over =
-            λ w h.
-            missing-in
-            (held b target)
-            (m .members source .over w (in-lacking (s .vector target) (s .log source) h))
+            λ w h. missing-in (held b target) (m .members source .over w (in-lacking (s .vector target) (s .log source) h))
             (λ k. omega (arith, lacking-above (s .vector target) (s .log source) h, sound .covered target w (m .members target .back w k)));
         back = λ w h. lacking-in (s .vector target) (m .members source .back w (in-missing (held b source) (held b target) h)) (past w h);
       }
     where
       past : (w : Write) → In w (missing (held b source) (held b target)) → s .vector target (w .origin) < w .clock
       past w h =
-          ⊎-elim
-          (λ l. l)
-          (λ l.
-          absurd
-          (missing-not
-          (held b source)
-          (held b target)
-          h
-          (m .members target .over
-          w
-          (sound .complete
-          target
-          w
-          (sound .home source w (m .members source .back w (in-missing (held b source) (held b target) h)))
-          l))))
+          ⊎-elim (λ l. l) (λ l. absurd (missing-not (held b source) (held b target) h (m .members target .over w (sound .complete target w
+          (sound .home source w (m .members source .back w (in-missing (held b source) (held b target) h))) l))))
           (lt-or-le (s .vector target (w .origin)) (w .clock))
 
   -- The same writes go over, and as many.
@@ -163,12 +129,8 @@ module _ {z : Size} {s : State} {b : Book} (sound : SoundState z s) (m : Matchin
   sent-alike source target most =
       take-least (lacking (s .vector target) (s .log source)) most (z .l - length (s .log target))
       ∙ (ap (λ k. take (min most (z .l - k)) (lacking (s .vector target) (s .log source))) (m .sizes target)
-      ∙ sym
-      (leastFirst-take
-      (min most (z .l - length (held b target)))
-      (missing (held b source) (held b target))
-      (lacking-ascending (s .vector target) (sound .ascending source))
-      (lacking-missing source target)))
+      ∙ sym (leastFirst-take (min most (z .l - length (held b target))) (missing (held b source) (held b target))
+      (lacking-ascending (s .vector target) (sound .ascending source)) (lacking-missing source target)))
 
   pub goingOver-length : (source target most : ℕ) → goingOver z s source target most ≡ length (bookSent z b source target most)
   goingOver-length source target most = sym (length-sent sound source target most) ∙ ap length (sent-alike source target most)

@@ -54,17 +54,11 @@ covers-join {set = set} {more = more} {v = v} {u = u} c d =
     record {
       real = λ w h. ⊎-elim (λ m. d .real w m) (λ m. c .real w m) (in-append-cases more h);
       above =
-          λ w h.
-          ⊎-elim
-          (λ m. omega (arith, d .above w m, join-right v u (w .origin)))
-          (λ m. omega (arith, c .above w m, join-left v u (w .origin)))
-          (in-append-cases more h);
+          λ w h. ⊎-elim (λ m. omega (arith, d .above w m, join-right v u (w .origin)))
+          (λ m. omega (arith, c .above w m, join-left v u (w .origin))) (in-append-cases more h);
       reached =
-          λ j.
-          ⊎-elim
-          (λ e. subst (Reached (more ++ set) j) (sym e) (reached-in (λ w m. in-append-right more m) (c .reached j)))
-          (λ e. subst (Reached (more ++ set) j) (sym e) (reached-in (λ w m. in-append-left set m) (d .reached j)))
-          (join-either v u j);
+          λ j. ⊎-elim (λ e. subst (Reached (more ++ set) j) (sym e) (reached-in (λ w m. in-append-right more m) (c .reached j)))
+          (λ e. subst (Reached (more ++ set) j) (sym e) (reached-in (λ w m. in-append-left set m) (d .reached j))) (join-either v u j);
     }
 
 -- One write more, with the greatest clock of its home log.
@@ -75,23 +69,11 @@ covers-write {s} {set} {v} c w h top =
     record {
       real = real;
       above =
-          λ x m.
-          upd-elim
-          (λ (k : ℕ). x .clock ≤ k)
-          v
-          (w .origin)
-          (w .clock)
-          (x .origin)
+          λ x m. upd-elim (λ (k : ℕ). x .clock ≤ k) v (w .origin) (w .clock) (x .origin)
           (λ e. top x (subst (λ (j : ℕ). In x (s .log j)) e (real x m)))
           (λ e. ⊎-elim (λ (p : x ≡ w). absurd (e (ap (λ y. y .origin) p))) (λ m′. c .above x m′) (in-cons m));
       reached =
-          λ j.
-          upd-elim
-          (Reached (w ∷ set) j)
-          v
-          (w .origin)
-          (w .clock)
-          j
+          λ j. upd-elim (Reached (w ∷ set) j) v (w .origin) (w .clock) j
           (λ e. inr (record { write = w; stored = here refl; from = sym e; timed = refl }))
           (λ e. reached-in (λ x m. there m) (c .reached j));
     }
@@ -128,11 +110,7 @@ slot-matching {s} {b} m k o p c =
       members = m .members;
       sizes = m .sizes;
       slots =
-          λ i.
-          cond-both
-          (MatchingSlot (withSlot s k o))
-          (eqb i k)
-          (slot-kept s (withSlot s k o) (λ j w h. h) o p c)
+          λ i. cond-both (MatchingSlot (withSlot s k o)) (eqb i k) (slot-kept s (withSlot s k o) (λ j w h. h) o p c)
           (slot-kept s (withSlot s k o) (λ j w h. h) (s .slot i) (b .slot i) (m .slots i));
     }
 
@@ -169,14 +147,7 @@ takesIn-order g ws =
 pub arrived-kept : (s : State) (i : ℕ) (v : ℕ → ℕ) (ws g : List Write) → TakesIn (s .log i) ws g → Kept s (withVector (withLog s i g) i v)
 unfolding withVector withLog
 arrived-kept s i v ws g t j w h =
-    upd-elim
-    (λ (l : List Write). In w l)
-    (s .log)
-    i
-    g
-    j
-    (λ e. t .kept w (subst (λ (k : ℕ). In w (s .log k)) e h))
-    (λ e. h)
+    upd-elim (λ (l : List Write). In w l) (s .log) i g j (λ e. t .kept w (subst (λ (k : ℕ). In w (s .log k)) e h)) (λ e. h)
 
 -- The same writes arrive at one server in both.
 pub arrived-matching : {s : State} {b : Book} → Matching s b → (i : ℕ) (v : ℕ → ℕ) (ws g : List Write) → TakesIn (s .log i) ws g

@@ -61,13 +61,7 @@ unfolding stateAfter
 still-after means k q e [] lasts = record { session = q; is = e; later = later-refl q }
 still-after {z} {s} {t} means k q e (x ∷ xs) lasts =
     let next : Still (rule z s x .state) k q =
-    effect-still
-    (means .state)
-    k
-    q
-    e
-    (step-effect means x)
-    (λ o d.
+    effect-still (means .state) k q e (step-effect means x) (λ o d.
     let c = asked-close z x k o in
     lasts .0 (record { kind = c .0; slot = c .1; accepted = ap (λ (r : Answer). r .code) (step-answer means x) ∙ d })) in
     let end : Still (stateAfter z (rule z s x .state) xs) k (next .session) =

@@ -48,13 +48,9 @@ pub newestOn-none : (item : ℕ) (ws : List Write) → newestOn item ws ≡ none
 unfolding newestOn
 newestOn-none item [] = λ e x h. in-nil h
 newestOn-none item (w ∷ ws) =
-    cond-elim
-    (λ (o : Option Write). o ≡ none → (x : Write) → In x (w ∷ ws) → x .item ≡ item → ⊥)
-    (eqb (w .item) item)
-    (λ t q.
+    cond-elim (λ (o : Option Write). o ≡ none → (x : Write) → In x (w ∷ ws) → x .item ≡ item → ⊥) (eqb (w .item) item) (λ t q.
     let z : _≡_ {A = ℕ} 0 1 = cc in
-    absurd (omega arith))
-    (λ t q. each (λ (x : Write). x .item ≡ item → ⊥) (eqb-false (w .item) item t) (newestOn-none item ws q))
+    absurd (omega arith)) (λ t q. each (λ (x : Write). x .item ≡ item → ⊥) (eqb-false (w .item) item t) (newestOn-none item ws q))
 
 -- What is found is the newest.
 pub newestOn-some : (item : ℕ) (ws : List Write) (w : Write) → newestOn item ws ≡ some w → NewestOn item ws w
@@ -63,15 +59,9 @@ newestOn-some item [] w = λ e.
     let z : _≡_ {A = ℕ} 0 1 = cc in
     absurd (omega arith)
 newestOn-some item (x ∷ xs) w =
-    cond-elim
-    (λ (o : Option Write). o ≡ some w → NewestOn item (x ∷ xs) w)
-    (eqb (x .item) item)
-    (λ t e.
+    cond-elim (λ (o : Option Write). o ≡ some w → NewestOn item (x ∷ xs) w) (eqb (x .item) item) (λ t e.
     let p : later x (newestOn item xs) ≡ w = cc in
-    subst
-    (NewestOn item (x ∷ xs))
-    p
-    (on (eqb-true (x .item) item t) (newestOn item xs) (newestOn-none item xs) (newestOn-some item xs)))
+    subst (NewestOn item (x ∷ xs)) p (on (eqb-true (x .item) item t) (newestOn item xs) (newestOn-none item xs) (newestOn-some item xs)))
     (λ t e. newestOn-stays item x (newestOn-some item xs w e) (λ i. absurd (eqb-false (x .item) item t i)))
   where
     on : x .item ≡ item
@@ -81,22 +71,13 @@ newestOn-some item (x ∷ xs) w =
         → NewestOn item (x ∷ xs) (later x o)
     on i none absent found = newestOn-first item x xs i (λ y m j. absurd (absent refl y m j))
     on i (some y) absent found =
-        cond-elim
-        (NewestOn item (x ∷ xs))
-        (before x y)
-        (λ e. newestOn-stays item x (found y refl) (λ j. not-before-back x y e))
+        cond-elim (NewestOn item (x ∷ xs)) (before x y) (λ e. newestOn-stays item x (found y refl) (λ j. not-before-back x y e))
         (λ e. newestOn-first item x xs i (λ u m j. not-before-trans x y u e (found y refl .newest u m j)))
 
 -- The newest write on an item is the last in the order of the log.
 pub newestOn-lastOn : (item : ℕ) {g h : List Write} → Ascending g → SameMembers g h → newestOn item h ≡ lastOn item g
 newestOn-lastOn item {g} {h} a m =
-    go
-    (newestOn item h)
-    (lastOn item g)
-    (newestOn-none item h)
-    (newestOn-some item h)
-    (lastOn-none item g)
-    (lastOn-some item a)
+    go (newestOn item h) (lastOn item g) (newestOn-none item h) (newestOn-some item h) (lastOn-none item g) (lastOn-some item a)
   where
     go : (o p : Option Write)
         → (o ≡ none → (x : Write) → In x h → x .item ≡ item → ⊥)
@@ -114,7 +95,5 @@ newestOn-lastOn item {g} {h} a m =
     go (some w) (some x) no-new new no-last last =
         let f = new w refl in
         let l = last x refl in
-        ⊎-elim
-        (λ e. ap {B = Option Write} some e)
-        (λ e. true-not-false e (f .newest x (m .over x (l .stored)) (l .about)))
+        ⊎-elim (λ e. ap {B = Option Write} some e) (λ e. true-not-false e (f .newest x (m .over x (l .stored)) (l .about)))
         (l .last w (m .back w (f .stored)) (f .about))

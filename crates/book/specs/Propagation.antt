@@ -44,14 +44,7 @@ module _ {z : Size} {s : State} (sound : SoundState z s) where
         ordered = new-last sound j item value h w₁ m;
         made = subst (λ (g : List Write). In w₂ g) (sym (upd-same (s .log) j (s .log j ++ (w₂ ∷ [])) j refl)) (in-append-right (s .log j) (here refl));
         along =
-            λ i.
-            upd-elim
-            (λ (g : List Write). In w₂ g → In w₁ g)
-            (s .log)
-            j
-            (s .log j ++ (w₂ ∷ []))
-            i
-            (λ e m′. in-append-left (w₂ ∷ []) m)
+            λ i. upd-elim (λ (g : List Write). In w₂ g → In w₁ g) (s .log) j (s .log j ++ (w₂ ∷ [])) i (λ e m′. in-append-left (w₂ ∷ []) m)
             (λ e m′. new-nowhere j item value h i m′);
       }
 
@@ -61,48 +54,19 @@ module _ {z : Size} {s : State} (sound : SoundState z s) where
         → In w₁ (upd (s .log) j (s .log j ++ (newWrite z s j item value ∷ [])) i)
     along-written j item value h i =
         let w = newWrite z s j item value in
-        upd-elim
-        (λ (g : List Write). In w₂ g → In w₁ g)
-        (s .log)
-        j
-        (s .log j ++ (w ∷ []))
-        i
-        (λ e m.
-        in-append-left
-        (w ∷ [])
-        (⊎-elim
+        upd-elim (λ (g : List Write). In w₂ g → In w₁ g) (s .log) j (s .log j ++ (w ∷ [])) i (λ e m. in-append-left (w ∷ []) (⊎-elim
         (λ m′. precedes .along j m′)
         (λ m′. new-nowhere j item value h (w₂ .origin) (subst (λ (x : Write). In x (s .log (w₂ .origin))) (in-one m′) (precedes .made)))
-        (in-append-cases (s .log j) m)))
-        (λ e m. precedes .along i m)
+        (in-append-cases (s .log j) m))) (λ e m. precedes .along i m)
 
     along-received : (source target most i : ℕ)
         → In w₂ (upd (s .log) target (insertAll (sent z s source target most) (s .log target)) i)
         → In w₁ (upd (s .log) target (insertAll (sent z s source target most) (s .log target)) i)
     along-received source target most i =
         let ws = sent z s source target most in
-        upd-elim
-        (λ (g : List Write). In w₂ g → In w₁ g)
-        (s .log)
-        target
-        (insertAll ws (s .log target))
-        i
-        (λ e m.
-        ⊎-elim
-        (λ m′.
-        sent-after
-        sound
-        source
-        target
-        most
-        w₂
-        w₁
-        m′
-        (precedes .along source (sent-from sound source target most w₂ m′))
-        (precedes .ordered))
-        (λ m′. insertAll-old ws (precedes .along target m′))
-        (in-insertAll ws (s .log target) m))
-        (λ e m. precedes .along i m)
+        upd-elim (λ (g : List Write). In w₂ g → In w₁ g) (s .log) target (insertAll ws (s .log target)) i (λ e m. ⊎-elim (λ m′. sent-after
+        sound source target most w₂ w₁ m′ (precedes .along source (sent-from sound source target most w₂ m′)) (precedes .ordered))
+        (λ m′. insertAll-old ws (precedes .along target m′)) (in-insertAll ws (s .log target) m)) (λ e m. precedes .along i m)
 
     -- No step parts them.
     pub effect-precedes : {o : Op} {r : Answer} {after : State} → InRange z o → Effect z s o r after → Precedes after w₁ w₂

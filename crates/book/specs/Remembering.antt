@@ -34,12 +34,7 @@ module _ {z : Size} {s : State} (sound : SoundState z s) where
   dominated-stored : (i : ℕ) (v : ℕ → ℕ) → dominates (z .n) (s .vector i) v ≡ true → (w : Write) → In w (s .log (w .origin)) → w .clock ≤ v (w .origin)
       → In w (s .log i)
   dominated-stored i v h w m l =
-      sound
-      .complete
-      i
-      w
-      m
-      (omega (arith, dominates-at (z .n) (s .vector i) v h (w .origin) (sound .origins (w .origin) w m)))
+      sound .complete i w m (omega (arith, dominates-at (z .n) (s .vector i) v h (w .origin) (sound .origins (w .origin) w m)))
 
 -- The four checks, each by the guarantee that asks for it.
 module _ (n : ℕ) (q : Session) (v : ℕ → ℕ) where
@@ -132,9 +127,7 @@ module _ {z : Size} {s : State} {t : List ℕ} (means : Means z s t) (y : Step) 
 
   chose-here : (guarantee : ℕ → Bool) (q : Session) → s .slot k ≡ opened q → Chose t k guarantee → guarantee (q .guarantees) ≡ true
   chose-here guarantee q e c =
-      subst
-      (λ (r : Session). guarantee (r .guarantees) ≡ true)
-      (one-session (ap (λ u. u .slot k) (sym (means-state means)) ∙ c .is) e)
+      subst (λ (r : Session). guarantee (r .guarantees) ≡ true) (one-session (ap (λ u. u .slot k) (sym (means-state means)) ∙ c .is) e)
       (c .chosen)
 
   pub read-served : (guarantee : ℕ → Bool) (vector : Session → ℕ → ℕ)
@@ -143,20 +136,8 @@ module _ {z : Size} {s : State} {t : List ℕ} (means : Means z s t) (y : Step) 
   read-served guarantee vector checked j r c m =
       let d : ReadDone z s k (y .b) (y .c) (rule z s y .answer) (rule z s y .state) = read-did means y k j r in
       let q = d .session in
-      stores
-      means
-      j
-      w
-      (subst
-      (λ (i : ℕ). In w (s .log i))
-      (read-at means y k j r)
-      (dominated-stored
-      (means .state)
-      (d .server)
-      (vector q)
-      (checked q (s .vector (d .server)) (d .chosen .passed) (chose-here guarantee q (d .open-slot) c))
-      w
-      (m .made)
+      stores means j w (subst (λ (i : ℕ). In w (s .log i)) (read-at means y k j r) (dominated-stored (means .state) (d .server) (vector q)
+      (checked q (s .vector (d .server)) (d .chosen .passed) (chose-here guarantee q (d .open-slot) c)) w (m .made)
       (subst (λ (p : Session). w .clock ≤ vector p (w .origin)) (one-session (m .is) (d .open-slot)) (m .covers))))
 
   pub write-served : (guarantee : ℕ → Bool) (vector : Session → ℕ → ℕ)
@@ -166,20 +147,9 @@ module _ {z : Size} {s : State} {t : List ℕ} (means : Means z s t) (y : Step) 
       let d : WriteDone z s k (y .b) (y .c) (y .d) (rule z s y .answer) (rule z s y .state) = write-did means y k w₂ r in
       let q = d .session in
       let held : In w (s .log (d .server)) =
-      dominated-stored
-      (means .state)
-      (d .server)
-      (vector q)
-      (checked
-      q
-      (s .vector (d .server))
+      dominated-stored (means .state) (d .server) (vector q) (checked q (s .vector (d .server))
       (and-left (upToDateToWrite (z .n) q (s .vector (d .server))) (hasRoom z s (d .server)) (d .chosen .passed))
-      (chose-here guarantee q (d .open-slot) c))
-      w
-      (m .made)
+      (chose-here guarantee q (d .open-slot) c)) w (m .made)
       (subst (λ (p : Session). w .clock ≤ vector p (w .origin)) (one-session (m .is) (d .open-slot)) (m .covers)) in
-      subst₂
-      (λ (u : State) (v : Write). Precedes u w v)
-      (sym (d .leaves))
-      (sym (write-is means y k w₂ r))
+      subst₂ (λ (u : State) (v : Write). Precedes u w v) (sym (d .leaves)) (sym (write-is means y k w₂ r))
       (accepted-precedes (means .state) k q (d .server) (y .b) (y .c) (d .chosen .server) w held)

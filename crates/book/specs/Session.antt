@@ -43,10 +43,8 @@ pub record Still (s : State) (k : ℕ) (q : Session) : Type 0 where
 still-set : (s : State) (m : ℕ) (r : Session) (k : ℕ) (q : Session) → s .slot k ≡ opened q → (k ≡ m → Later q r) → Still (withSlot s m (opened r)) k q
 unfolding withSlot
 still-set s m r k q e h =
-    ⊎-elim
-    (λ t. record { session = r; is = upd-same (s .slot) m (opened r) k (eqb-true k m t); later = h (eqb-true k m t) })
-    (λ t. record { session = q; is = upd-other (s .slot) m (opened r) k (eqb-false k m t) ∙ e; later = later-refl q })
-    (either (eqb k m))
+    ⊎-elim (λ t. record { session = r; is = upd-same (s .slot) m (opened r) k (eqb-true k m t); later = h (eqb-true k m t) })
+    (λ t. record { session = q; is = upd-other (s .slot) m (opened r) k (eqb-false k m t) ∙ e; later = later-refl q }) (either (eqb k m))
 
 module _ {z : Size} {s : State} (sound : SoundState z s) (k : ℕ) (q : Session) (e : s .slot k ≡ opened q) where
   -- Of one open slot there is one session.
@@ -65,17 +63,9 @@ module _ {z : Size} {s : State} (sound : SoundState z s) (k : ℕ) (q : Session)
         chosen = refl;
         read = λ j. omega arith;
         wrote =
-            λ j.
-            upd-elim
-            (λ c. q .writeVector j ≤ c)
-            (q .writeVector)
-            i
-            (newWrite z s i item value .clock)
-            j
-            (λ p.
+            λ j. upd-elim (λ c. q .writeVector j ≤ c) (q .writeVector) i (newWrite z s i item value .clock) j (λ p.
             let c : SoundSession (z .n) (λ m. s .vector m m) q = subst (SoundSlot (z .n) (λ m. s .vector m m)) e (sound .slots k) in
-            omega (arith, c .writeBelow i, new-above sound i item value h i h, ap (q .writeVector) p))
-            (λ p. omega arith);
+            omega (arith, c .writeBelow i, new-above sound i item value h i h, ap (q .writeVector) p)) (λ p. omega arith);
       }
 
   -- A step that does not close the session leaves it open, and it forgets nothing.
@@ -90,30 +80,13 @@ module _ {z : Size} {s : State} (sound : SoundState z s) (k : ℕ) (q : Session)
           let y : _≡_ {A = ℕ} 0 1 = cc in
           omega arith
   effect-still (was-closed {k = m} r p) lasts =
-      ⊎-elim
-      (λ t. absurd (lasts (ap closes (sym (eqb-true k m t))) refl))
-      (λ t. record { session = q; is = upd-other (s .slot) m closed k (eqb-false k m t) ∙ e; later = later-refl q })
-      (either (eqb k m))
+      ⊎-elim (λ t. absurd (lasts (ap closes (sym (eqb-true k m t))) refl))
+      (λ t. record { session = q; is = upd-other (s .slot) m closed k (eqb-false k m t) ∙ e; later = later-refl q }) (either (eqb k m))
   effect-still (was-read {k = m} r i p c) lasts =
-      still-set
-      s
-      m
-      (afterRead r i (s .vector i))
-      k
-      q
-      e
+      still-set s m (afterRead r i (s .vector i)) k q e
       (λ d. subst (λ (t : Session). Later q (afterRead t i (s .vector i))) (sym (same-session (ap (s .slot) d ∙ p))) (read-later i (s .vector i)))
   effect-still (was-written {k = m} {item = item} {value = value} r i p c) lasts =
-      still-set
-      _
-      m
-      (afterWrite r i (newWrite z s i item value .clock))
-      k
-      q
-      e
-      (λ d.
-      subst
-      (λ (t : Session). Later q (afterWrite t i (newWrite z s i item value .clock)))
-      (sym (same-session (ap (s .slot) d ∙ p)))
+      still-set _ m (afterWrite r i (newWrite z s i item value .clock)) k q e (λ d. subst
+      (λ (t : Session). Later q (afterWrite t i (newWrite z s i item value .clock))) (sym (same-session (ap (s .slot) d ∙ p)))
       (write-later i item value (c .server)))
   effect-still (was-exchanged p) lasts = record { session = q; is = e; later = later-refl q }

@@ -45,10 +45,7 @@ module _ (z : Size) (s : State) (b : Book) (sound : SoundState z s) (m : Matchin
   unfolding opening bookOpening newSession
   open-alike k g closed shut c = (
     refl,
-    slot-matching
-        m
-        k
-        (opened (newSession g))
+    slot-matching m k (opened (newSession g))
         (live (record { guarantees = g; lastUsed = 0; readSet = []; writeSet = [] }))
         (record { chosen = refl; used = refl; readCovers = covers-none s; writeCovers = covers-none s }),
   )
@@ -71,10 +68,7 @@ module _ (z : Size) (s : State) (b : Book) (sound : SoundState z s) (m : Matchin
   readFrom-alike k item q r c none = refuse-alike 6
   readFrom-alike k item q r c (some i) = (
     ap (readAnswer i) (sym (newestOn-lastOn item (sound .ascending i) (m .members i))) ∙ answer-alike i (newestOn item (held b i)),
-    slot-matching
-        m
-        k
-        (opened (afterRead q i (s .vector i)))
+    slot-matching m k (opened (afterRead q i (s .vector i)))
         (live (record { guarantees = r .guarantees; lastUsed = suc i; readSet = held b i ++ r .readSet; writeSet = r .writeSet }))
         (record {
           chosen = c .chosen;
@@ -91,10 +85,7 @@ module _ (z : Size) (s : State) (b : Book) (sound : SoundState z s) (m : Matchin
   read-alike k item reach closed (live r) c = absurd c
   read-alike k item reach (opened q) shut c = absurd c
   read-alike k item reach (opened q) (live r) c =
-      cond-both
-      Alike
-      (eqb reach 0)
-      (refuse-alike 5)
+      cond-both Alike (eqb reach 0) (refuse-alike 5)
       (rw (choose-alike c (z .n) reach (read-checked sound m c)) (readFrom-alike k item q r c _))
 
   -- ---- write
@@ -104,10 +95,7 @@ module _ (z : Size) (s : State) (b : Book) (sound : SoundState z s) (m : Matchin
       → Matching (accepted s k q (w .origin) w) (bookAccepted b k r (w .origin) w .book)
   unfolding accepted bookAccepted afterWrite withVector withLog
   accepted-matching k q r c w later =
-      slot-matching
-      (arrived-matching m i v (w ∷ []) g (takesIn-end (s .log i) (w ∷ [])))
-      k
-      (opened (afterWrite q i (w .clock)))
+      slot-matching (arrived-matching m i v (w ∷ []) g (takesIn-end (s .log i) (w ∷ []))) k (opened (afterWrite q i (w .clock)))
       (live (record { guarantees = r .guarantees; lastUsed = suc i; readSet = r .readSet; writeSet = w ∷ r .writeSet }))
       (record {
         chosen = c .chosen;
@@ -136,9 +124,7 @@ module _ (z : Size) (s : State) (b : Book) (sound : SoundState z s) (m : Matchin
 
       top : (x : Write) → In x (t .log i) → x .clock ≤ w .clock
       top x h =
-          ⊎-elim
-          (λ l. omega (arith, latestClock-above (m .members i .over x l)))
-          (λ l. omega (arith, ap (λ y. y .clock) (in-one l)))
+          ⊎-elim (λ l. omega (arith, latestClock-above (m .members i .over x l))) (λ l. omega (arith, ap (λ y. y .clock) (in-one l)))
           (in-append-cases (s .log i) (subst (λ (l : List Write). In x l) (upd-same (s .log) i g i refl) h))
 
   -- The server found makes the same write.
@@ -157,11 +143,7 @@ module _ (z : Size) (s : State) (b : Book) (sound : SoundState z s) (m : Matchin
   write-alike k item value reach closed (live r) c = absurd c
   write-alike k item value reach (opened q) shut c = absurd c
   write-alike k item value reach (opened q) (live r) c =
-      cond-both
-      Alike
-      (eqb reach 0)
-      (refuse-alike 5)
-      (rw
+      cond-both Alike (eqb reach 0) (refuse-alike 5) (rw
       (choose-alike c (z .n) reach (write-checked sound m c), choose-alike c (z .n) reach (roomy-checked sound m c))
       (writeTo-alike k item value q r c _ _))
 
@@ -171,13 +153,9 @@ module _ (z : Size) (s : State) (b : Book) (sound : SoundState z s) (m : Matchin
   pub exchange-alike : (source target most : ℕ) → Alike (exchanging z s source target most) (bookExchanging z b source target most)
   unfolding exchanging bookExchanging exchangeAnswer received
   exchange-alike source target most =
-      cond-both
-      Alike
-      (eqb source target)
-      (refuse-alike 4) (
+      cond-both Alike (eqb source target) (refuse-alike 4) (
         ap (exchangeAnswer source target) (goingOver-length sound m source target most),
-        subst
-            (λ (ws : List Write). Matching (received s target (sent z s source target most)) (withArrived b target ws))
+        subst (λ (ws : List Write). Matching (received s target (sent z s source target most)) (withArrived b target ws))
             (sent-alike sound m source target most)
             (arrived-matching m target (follow (sent z s source target most) (s .vector target)) (sent z s source target most) _ (takesIn-order (s .log target) (sent z s source target most))),
       )

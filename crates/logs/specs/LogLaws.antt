@@ -26,10 +26,7 @@ pub in-insert : {x : Write} (w : Write) (g : List Write) → In x (insert w g) �
 unfolding insert
 in-insert w [] = λ h. in-cons h
 in-insert {x} w (y ∷ ys) =
-    cond-elim
-    (λ (l : List Write). In x l → (x ≡ w) ⊎ In x (y ∷ ys))
-    (before w y)
-    (λ e h. in-cons h)
+    cond-elim (λ (l : List Write). In x l → (x ≡ w) ⊎ In x (y ∷ ys)) (before w y) (λ e h. in-cons h)
     (λ e h. ⊎-elim (λ q. inr (here q)) (λ m. ⊎-elim (λ q. inl q) (λ m′. inr (there m′)) (in-insert w ys m)) (in-cons h))
 
 pub insert-new : (w : Write) (g : List Write) → In w (insert w g)
@@ -55,15 +52,9 @@ pub insert-ascending : (w : Write) {g : List Write} → Ascending g → ((x : Wr
 unfolding insert
 insert-ascending w ascending-nil new = ascending-cons (λ x h. in-nil h) ascending-nil
 insert-ascending w (ascending-cons {w = y} {ws = ys} head rest) new =
-    cond-elim
-    (λ (l : List Write). Ascending l)
-    (before w y)
-    (λ e.
-    ascending-cons
+    cond-elim (λ (l : List Write). Ascending l) (before w y) (λ e. ascending-cons
     (λ x h. ⊎-elim (λ q. subst (λ (v : Write). before w v ≡ true) (sym q) e) (λ m. before-trans w y x e (head x m)) (in-cons h))
-    (ascending-cons head rest))
-    (λ e.
-    ascending-cons
+    (ascending-cons head rest)) (λ e. ascending-cons
     (λ x h. ⊎-elim (λ q. subst (λ (v : Write). before y v ≡ true) (sym q) (after e)) (λ m. head x m) (in-insert w ys h))
     (insert-ascending w rest (λ x h. new x (there h))))
   where
@@ -75,10 +66,8 @@ pub insert-last : (w : Write) (g : List Write) → ((x : Write) → In x g → b
 unfolding insert
 insert-last w [] h = refl
 insert-last w (y ∷ ys) h =
-    ⊎-elim
-    (λ e. before-asym w y e (h y (here refl)))
-    (λ e. cond-false (before w y) _ _ e ∙ ap {B = List Write} (λ l. y ∷ l) (insert-last w ys (λ x m. h x (there m))))
-    (either (before w y))
+    ⊎-elim (λ e. before-asym w y e (h y (here refl)))
+    (λ e. cond-false (before w y) _ _ e ∙ ap {B = List Write} (λ l. y ∷ l) (insert-last w ys (λ x m. h x (there m)))) (either (before w y))
 
 -- ---- several insertions
 
@@ -86,10 +75,7 @@ pub in-insertAll : {x : Write} (ws g : List Write) → In x (insertAll ws g) →
 unfolding insertAll
 in-insertAll [] g h = inr h
 in-insertAll (w ∷ ws) g h =
-    ⊎-elim
-    (λ m. inl (there m))
-    (λ m. ⊎-elim (λ q. inl (here q)) (λ m′. inr m′) (in-insert w g m))
-    (in-insertAll ws (insert w g) h)
+    ⊎-elim (λ m. inl (there m)) (λ m. ⊎-elim (λ q. inl (here q)) (λ m′. inr m′) (in-insert w g m)) (in-insertAll ws (insert w g) h)
 
 pub insertAll-old : {x : Write} (ws : List Write) {g : List Write} → In x g → In x (insertAll ws g)
 unfolding insertAll
@@ -100,10 +86,8 @@ pub insertAll-new : {x : Write} (ws g : List Write) → In x ws → In x (insert
 unfolding insertAll
 insertAll-new [] g h = in-nil h
 insertAll-new {x} (w ∷ ws) g h =
-    ⊎-elim
-    (λ q. insertAll-old ws (subst (λ (y : Write). In y (insert w g)) (sym q) (insert-new w g)))
-    (λ m. insertAll-new ws (insert w g) m)
-    (in-cons h)
+    ⊎-elim (λ q. insertAll-old ws (subst (λ (y : Write). In y (insert w g)) (sym q) (insert-new w g)))
+    (λ m. insertAll-new ws (insert w g) m) (in-cons h)
 
 pub length-insertAll : (ws g : List Write) → length (insertAll ws g) ≡ length ws + length g
 unfolding insertAll
@@ -116,15 +100,9 @@ pub insertAll-ascending : (ws : List Write) {g : List Write} → Ascending ws �
 unfolding insertAll
 insertAll-ascending [] p q new = q
 insertAll-ascending (w ∷ ws) {g} p q new =
-    insertAll-ascending
-    ws
-    (ascending-tail p)
-    (insert-ascending w q (λ x h. new w x (here refl) h))
-    (λ y x h m k.
-    ⊎-elim
+    insertAll-ascending ws (ascending-tail p) (insert-ascending w q (λ x h. new w x (here refl) h)) (λ y x h m k. ⊎-elim
     (λ e. before-not-key w y (ascending-head p y h) (sym (k .0 ∙ ap (λ v. v .clock) e), sym (k .1 ∙ ap (λ v. v .origin) e)))
-    (λ m′. new y x (there h) m′ k)
-    (in-insert w g m))
+    (λ m′. new y x (there h) m′ k) (in-insert w g m))
 
 -- ---- the first of a log in order
 
@@ -139,15 +117,8 @@ pub take-before : (k : ℕ) {g : List Write} → Ascending g → (w x : Write) �
 take-before zero a w x h m b = in-nil h
 take-before (suc k) ascending-nil w x h m b = in-nil m
 take-before (suc k) (ascending-cons {w = y} {ws = ys} head rest) w x h m b =
-    ⊎-elim
-    (λ q. here q)
-    (λ m′.
-    there
-    (⊎-elim
-    (λ q. before-asym y x (head x m′) (subst (λ (v : Write). before x v ≡ true) q b))
-    (λ h′. take-before k rest w x h′ m′ b)
-    (in-cons h)))
-    (in-cons m)
+    ⊎-elim (λ q. here q) (λ m′. there (⊎-elim (λ q. before-asym y x (head x m′) (subst (λ (v : Write). before x v ≡ true) q b))
+    (λ h′. take-before k rest w x h′ m′ b) (in-cons h))) (in-cons m)
 
 -- ---- the last write on an item
 
@@ -184,11 +155,8 @@ lastOn-some item (ascending-cons {w = v} {ws = vs} head rest) w e =
   where
     hit : (cond (eqb (v .item) item) (some v) none) ≡ some w → (v .item ≡ item) × (v ≡ w)
     hit =
-        cond-elim
-        (λ (o : Option Write). o ≡ some w → (v .item ≡ item) × (v ≡ w))
-        (eqb (v .item) item)
-        (λ t d. (eqb-true (v .item) item t, cc))
-        (λ t d.
+        cond-elim (λ (o : Option Write). o ≡ some w → (v .item ≡ item) × (v ≡ w)) (eqb (v .item) item)
+        (λ t d. (eqb-true (v .item) item t, cc)) (λ t d.
         let y : _≡_ {A = ℕ} 0 1 = cc in
         absurd (omega arith))
 
@@ -210,10 +178,7 @@ lastOn-some item (ascending-cons {w = v} {ws = vs} head rest) w e =
           stored = there (f .stored);
           about = f .about;
           last =
-              λ x h i.
-              ⊎-elim
-              (λ p. inr (subst (λ (u : Write). before u w ≡ true) (sym p) (head w (f .stored))))
-              (λ m. f .last x m i)
+              λ x h i. ⊎-elim (λ p. inr (subst (λ (u : Write). before u w ≡ true) (sym p) (head w (f .stored)))) (λ m. f .last x m i)
               (in-cons h);
         }
 
@@ -243,38 +208,22 @@ pub follow-either : (ws : List Write) (v : ℕ → ℕ) (j : ℕ) → (follow ws
 unfolding follow
 follow-either [] v j = inl refl
 follow-either (w ∷ ws) v j =
-    ⊎-elim
-    (λ e.
-    upd-elim
+    ⊎-elim (λ e. upd-elim
     (λ c. follow ws (upd v (w .origin) (w .clock)) j ≡ c → (follow ws (upd v (w .origin) (w .clock)) j ≡ v j) ⊎ Witness (w ∷ ws) j (follow ws (upd v (w .origin) (w .clock)) j))
-    v
-    (w .origin)
-    (w .clock)
-    j
-    (λ q d. inr (record { write = w; stored = here refl; from = sym q; timed = sym d }))
-    (λ q d. inl d)
-    e)
+    v (w .origin) (w .clock) j (λ q d. inr (record { write = w; stored = here refl; from = sym q; timed = sym d })) (λ q d. inl d) e)
     (λ f. inr (record { write = f .write; stored = there (f .stored); from = f .from; timed = f .timed }))
     (follow-either ws (upd v (w .origin) (w .clock)) j)
 
 -- A component of a vector that lies below all that goes over does not fall.
 pub follow-base : (ws : List Write) (v : ℕ → ℕ) → Ascending ws → ((w : Write) → In w ws → v (w .origin) < w .clock) → (j : ℕ) → v j ≤ follow ws v j
 follow-base ws v a h j =
-    ⊎-elim
-    (λ e. omega arith)
-    (λ f. omega (arith, f .timed, ap v (f .from), h (f .write) (f .stored)))
-    (follow-either ws v j)
+    ⊎-elim (λ e. omega arith) (λ f. omega (arith, f .timed, ap v (f .from), h (f .write) (f .stored))) (follow-either ws v j)
 
 -- A component is at least the clock of each write of its origin that went over in write order.
 pub follow-above : {ws : List Write} (v : ℕ → ℕ) → Ascending ws → (w : Write) → In w ws → w .clock ≤ follow ws v (w .origin)
 unfolding follow
 follow-above v ascending-nil w h = in-nil h
 follow-above v (ascending-cons {w = y} {ws = ys} head rest) w h =
-    ⊎-elim
-    (λ q.
-    ⊎-elim
-    (λ e. omega (arith, e, upd-same v (y .origin) (y .clock) (w .origin) (ap (λ u. u .origin) q), ap (λ u. u .clock) q))
+    ⊎-elim (λ q. ⊎-elim (λ e. omega (arith, e, upd-same v (y .origin) (y .clock) (w .origin) (ap (λ u. u .origin) q), ap (λ u. u .clock) q))
     (λ f. omega (arith, f .timed, before-clock-le y (f .write) (head (f .write) (f .stored)), ap (λ u. u .clock) q))
-    (follow-either ys (upd v (y .origin) (y .clock)) (w .origin)))
-    (λ m. follow-above (upd v (y .origin) (y .clock)) rest w m)
-    (in-cons h)
+    (follow-either ys (upd v (y .origin) (y .clock)) (w .origin))) (λ m. follow-above (upd v (y .origin) (y .clock)) rest w m) (in-cons h)

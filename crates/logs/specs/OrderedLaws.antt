@@ -25,9 +25,7 @@ first-least {x} a = each (λ y. x .clock ≤ y .clock) (omega arith) (λ y m. be
 -- A clock among a log's is the first write's, or among the others'.
 pub timed-cons : {w : Write} {g : List Write} {c : ℕ} → Timed (w ∷ g) c → (w .clock ≡ c) ⊎ Timed g c
 timed-cons t =
-    ⊎-elim
-    (λ e. inl (ap (λ v. v .clock) (sym e) ∙ t .timed))
-    (λ m. inr (record { write = t .write; stored = m; timed = t .timed }))
+    ⊎-elim (λ e. inl (ap (λ v. v .clock) (sym e) ∙ t .timed)) (λ m. inr (record { write = t .write; stored = m; timed = t .timed }))
     (in-cons (t .stored))
 
 -- One write more in front leaves the clocks there.
@@ -79,21 +77,15 @@ module _ (n items : ℕ) where
   ordered-more w x xs r b step o =
       record {
         ascending =
-            ascending-cons
-            (each (λ y. before w y ≡ true) b (λ y m. before-trans w x y b (ascending-head (o .ascending) y m)))
+            ascending-cons (each (λ y. before w y ≡ true) b (λ y m. before-trans w x y b (ascending-head (o .ascending) y m)))
             (o .ascending);
         origins = each (λ y. y .origin < n) (range-origin w r) (o .origins);
         noted = each (λ y. y .item < items) (range-item w r) (o .noted);
         started = each (λ y. w .clock ≤ y .clock) (omega arith) (λ y m. omega (arith, before-clock-le w x b, o .started y m));
         gapless =
-            each
-            (λ y. (c : ℕ) → y .clock ≡ suc c → w .clock ≤ c → Timed (w ∷ x ∷ xs) c)
-            (λ c e l. absurd (omega arith))
-            (λ y m c e l.
-            ⊎-elim
-            (λ q. record { write = w; stored = here refl; timed = ⊎-elim (λ s. absurd (omega arith)) (λ s. omega arith) step })
-            (λ q. timed-there w (o .gapless y m c e q))
-            (lt-or-le c (x .clock)));
+            each (λ y. (c : ℕ) → y .clock ≡ suc c → w .clock ≤ c → Timed (w ∷ x ∷ xs) c) (λ c e l. absurd (omega arith)) (λ y m c e l.
+            ⊎-elim (λ q. record { write = w; stored = here refl; timed = ⊎-elim (λ s. absurd (omega arith)) (λ s. omega arith) step })
+            (λ q. timed-there w (o .gapless y m c e q)) (lt-or-le c (x .clock)));
       }
 
   -- The same log without its first write.
@@ -108,9 +100,7 @@ module _ (n items : ℕ) where
         gapless =
             λ y m c e l.
             let le : w .clock ≤ x .clock = before-clock-le w x (ascending-head (o .ascending) x (here refl)) in
-            ⊎-elim
-            (λ (q : w .clock ≡ c). record { write = x; stored = here refl; timed = omega arith })
-            (λ t. t)
+            ⊎-elim (λ (q : w .clock ≡ c). record { write = x; stored = here refl; timed = omega arith }) (λ t. t)
             (timed-cons (o .gapless y (there m) c e (omega arith)));
       }
 
@@ -124,14 +114,9 @@ module _ (n items : ℕ) where
       go : (k : ℕ) → x .clock ≡ k → (x .clock ≡ w .clock) ⊎ (x .clock ≡ suc (w .clock))
       go zero e = inl (omega (arith, le))
       go (suc c) e =
-          ⊎-elim
-          (λ (l : c < w .clock). inl (omega (arith, le)))
-          (λ (l : w .clock ≤ c).
-          ⊎-elim
-          (λ (s : w .clock ≡ c). inr (omega arith))
+          ⊎-elim (λ (l : c < w .clock). inl (omega (arith, le))) (λ (l : w .clock ≤ c). ⊎-elim (λ (s : w .clock ≡ c). inr (omega arith))
           (λ (t : Timed (x ∷ xs) c). absurd (omega (arith, t .timed, first-least (ascending-tail (o .ascending)) (t .write) (t .stored))))
-          (timed-cons (o .gapless x (there (here refl)) c e l)))
-          (lt-or-le c (w .clock))
+          (timed-cons (o .gapless x (there (here refl)) c e l))) (lt-or-le c (w .clock))
 
   -- The first of all clocks, where none is below 1 and none is left out, is 1.
   pub ordered-first : (w : Write) (ws : List Write) → Ordered 1 n items (w ∷ ws) → w .clock ≡ 1
@@ -151,14 +136,7 @@ module _ (n items : ℕ) where
   goes-true w (x ∷ xs) r h =
       let h₁ = and-right (inRange n items x) _ h in
       let h₂ = and-right (before w x) _ h₁ in
-      ordered-more
-      w
-      x
-      xs
-      r
-      (and-left (before w x) _ h₁)
-      (⊎-elim
-      (λ e. inl (eqb-true (x .clock) (w .clock) e))
+      ordered-more w x xs r (and-left (before w x) _ h₁) (⊎-elim (λ e. inl (eqb-true (x .clock) (w .clock) e))
       (λ e. inr (eqb-true (x .clock) (suc (w .clock)) e))
       (or-cases _ _ (and-left (eqb (x .clock) (w .clock) || eqb (x .clock) (suc (w .clock))) _ h₂)))
       (goes-true x xs (and-left (inRange n items x) _ h) (and-right (eqb (x .clock) (w .clock) || eqb (x .clock) (suc (w .clock))) _ h₂))
@@ -168,21 +146,9 @@ module _ (n items : ℕ) where
   unfolding goesOn
   true-goes w [] o = refl
   true-goes w (x ∷ xs) o =
-      and-both
-      _
-      _
-      (in-range x (o .origins x (there (here refl))) (o .noted x (there (here refl))))
-      (and-both
-      _
-      _
-      (ascending-head (o .ascending) x (here refl))
-      (and-both
-      _
-      _
-      (⊎-elim
-      (λ e. or-left _ _ (eq-eqb (x .clock) (w .clock) e))
-      (λ e. or-right (eqb (x .clock) (w .clock)) _ (eq-eqb (x .clock) (suc (w .clock)) e))
-      (ordered-step w x xs o))
+      and-both _ _ (in-range x (o .origins x (there (here refl))) (o .noted x (there (here refl)))) (and-both _ _
+      (ascending-head (o .ascending) x (here refl)) (and-both _ _ (⊎-elim (λ e. or-left _ _ (eq-eqb (x .clock) (w .clock) e))
+      (λ e. or-right (eqb (x .clock) (w .clock)) _ (eq-eqb (x .clock) (suc (w .clock)) e)) (ordered-step w x xs o))
       (true-goes x xs (ordered-rest w x xs o))))
 
   -- A log that passes c is ordered from 1 on.
@@ -191,9 +157,7 @@ module _ (n items : ℕ) where
   ordered-true [] h = ordered-nil 1
   ordered-true (w ∷ ws) h =
       let h₁ = and-right (inRange n items w) _ h in
-      subst
-      (λ (c : ℕ). Ordered c n items (w ∷ ws))
-      (eqb-true (w .clock) 1 (and-left (eqb (w .clock) 1) _ h₁))
+      subst (λ (c : ℕ). Ordered c n items (w ∷ ws)) (eqb-true (w .clock) 1 (and-left (eqb (w .clock) 1) _ h₁))
       (goes-true w ws (and-left (inRange n items w) _ h) (and-right (eqb (w .clock) 1) _ h₁))
 
   -- And back.
@@ -202,8 +166,5 @@ module _ (n items : ℕ) where
   true-ordered [] o = refl
   true-ordered (w ∷ ws) o =
       let e : w .clock ≡ 1 = ordered-first w ws o in
-      and-both
-      _
-      _
-      (in-range w (o .origins w (here refl)) (o .noted w (here refl)))
+      and-both _ _ (in-range w (o .origins w (here refl)) (o .noted w (here refl)))
       (and-both _ _ (eq-eqb (w .clock) 1 e) (true-goes w ws (subst (λ (c : ℕ). Ordered c n items (w ∷ ws)) (sym e) o)))

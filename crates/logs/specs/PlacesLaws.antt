@@ -66,9 +66,7 @@ unfolding spelled entries entry row part
 spelled-entries zero ws h = refl
 spelled-entries (suc c) ws h =
     let e : suc c * width ≡ width + c * width = omega arith in
-    ap₂
-    (λ (place rest : List ℕ). place ++ rest)
-    (row-part ws 0 width 0 (omega arith))
+    ap₂ (λ (place rest : List ℕ). place ++ rest) (row-part ws 0 width 0 (omega arith))
     (spelled-entries c (drop width ws) (omega (arith, length-drop width ws)))
     ∙ (sym (take-add width (c * width) ws) ∙ ap (λ (k : ℕ). take k ws) (sym e))
 
@@ -76,12 +74,6 @@ spelled-entries (suc c) ws h =
 pub places-entries : (l c : ℕ) (ws : List ℕ) → length ws ≡ l * width → c ≤ l → zeros (drop (c * width) ws) ≡ true → places l (entries c ws) ≡ ws
 unfolding places
 places-entries l c ws e h o =
-    ap₂
-    (λ (front rest : List ℕ). front ++ rest)
-    (spelled-entries c ws (omega arith))
-    (zeros-are
-    ((l - length (entries c ws)) * width)
-    (drop (c * width) ws)
-    (omega (arith, length-entries c ws, length-drop (c * width) ws))
-    o)
+    ap₂ (λ (front rest : List ℕ). front ++ rest) (spelled-entries c ws (omega arith)) (zeros-are ((l - length (entries c ws)) * width)
+    (drop (c * width) ws) (omega (arith, length-entries c ws, length-drop (c * width) ws)) o)
     ∙ take-append-drop (c * width) ws

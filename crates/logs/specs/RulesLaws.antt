@@ -47,14 +47,10 @@ pub greatest-timed : (g : List Write) → (greatestClock g ≡ 0) ⊎ Timed g (g
 unfolding greatestClock
 greatest-timed [] = inl refl
 greatest-timed (w ∷ ws) =
-    ⊎-elim
-    (λ (l : greatestClock ws < w .clock). inr (record { write = w; stored = here refl; timed = omega arith }))
-    (λ (l : w .clock ≤ greatestClock ws).
-    ⊎-elim
-    (λ e. inl (omega arith))
+    ⊎-elim (λ (l : greatestClock ws < w .clock). inr (record { write = w; stored = here refl; timed = omega arith }))
+    (λ (l : w .clock ≤ greatestClock ws). ⊎-elim (λ e. inl (omega arith))
     (λ (t : Timed ws (greatestClock ws)). inr (record { write = t .write; stored = there (t .stored); timed = omega (arith, t .timed) }))
-    (greatest-timed ws))
-    (lt-or-le (greatestClock ws) (w .clock))
+    (greatest-timed ws)) (lt-or-le (greatestClock ws) (w .clock))
 
 -- No clock of origin j in the log is greater.
 pub greatest-covers : (j : ℕ) {g : List Write} (w : Write) → In w g → w .origin ≡ j → w .clock ≤ greatestOf j g
@@ -65,9 +61,7 @@ greatest-covers j w m e = clock-greatest w (origin-in j m e)
 pub greatest-attained : (j : ℕ) (g : List Write) → (greatestOf j g ≡ 0) ⊎ Witness g j (greatestOf j g)
 unfolding greatestOf
 greatest-attained j g =
-    ⊎-elim
-    (λ e. inl e)
-    (λ (t : Timed (ofOrigin j g) (greatestClock (ofOrigin j g))).
+    ⊎-elim (λ e. inl e) (λ (t : Timed (ofOrigin j g) (greatestClock (ofOrigin j g))).
     inr (record { write = t .write; stored = in-origin j g (t .stored); from = origin-is j g (t .stored); timed = t .timed }))
     (greatest-timed (ofOrigin j g))
 
@@ -124,12 +118,7 @@ agrees-true j c g home h =
 pub true-agrees : (j c : ℕ) {g home : List Write} → Ascending g → Ascending home → Agreed j c g home → agrees j c g home ≡ true
 unfolding agrees upTo ofOrigin
 true-agrees j c {g} {home} a b h =
-    eq-sameAll
-    _
-    _
-    (ascending-ext
-    (keep-ascending _ a)
-    (keep-ascending _ (keep-ascending _ b))
+    eq-sameAll _ _ (ascending-ext (keep-ascending _ a) (keep-ascending _ (keep-ascending _ b))
     (λ w m. let o : w .origin ≡ j = origin-is j g m in
     let m′ : In w g = in-origin j g m in
     keep-in _ (origin-in j (h .homed w m′ o) o) (le-leb (w .clock) c (h .bounded w m′ o)))

@@ -16,9 +16,7 @@ SameKey w x = (w .clock ≡ x .clock) × (w .origin ≡ x .origin)
 pub before-cases : (w x : Write) → before w x ≡ true → (w .clock < x .clock) ⊎ ((w .clock ≡ x .clock) × (w .origin < x .origin))
 unfolding before
 before-cases w x h =
-    ⊎-elim
-    (λ e. inl (ltb-true (w .clock) (x .clock) e))
-    (λ e. inr (
+    ⊎-elim (λ e. inl (ltb-true (w .clock) (x .clock) e)) (λ e. inr (
       eqb-true (w .clock) (x .clock) (and-left (eqb (w .clock) (x .clock)) (ltb (w .origin) (x .origin)) e),
       ltb-true (w .origin) (x .origin) (and-right (eqb (w .clock) (x .clock)) (ltb (w .origin) (x .origin)) e),
     ))
@@ -31,9 +29,7 @@ before-clock w x h = or-left (ltb (w .clock) (x .clock)) _ (lt-ltb (w .clock) (x
 pub before-origin : (w x : Write) → w .clock ≡ x .clock → w .origin < x .origin → before w x ≡ true
 unfolding before
 before-origin w x e h =
-    or-right
-    (ltb (w .clock) (x .clock))
-    _
+    or-right (ltb (w .clock) (x .clock)) _
     (and-both (eqb (w .clock) (x .clock)) _ (eq-eqb (w .clock) (x .clock) e) (lt-ltb (w .origin) (x .origin) h))
 
 pub before-clock-le : (w x : Write) → before w x ≡ true → w .clock ≤ x .clock
@@ -41,14 +37,10 @@ before-clock-le w x h = ⊎-elim (λ l. omega arith) (λ e. omega (arith, e .0))
 
 pub before-trans : (w x y : Write) → before w x ≡ true → before x y ≡ true → before w y ≡ true
 before-trans w x y h k =
-    ⊎-elim
-    (λ (l : w .clock < x .clock). before-clock w y (omega (arith, before-clock-le x y k)))
-    (λ (e : (w .clock ≡ x .clock) × (w .origin < x .origin)).
-    ⊎-elim
-    (λ (m : x .clock < y .clock). before-clock w y (omega (arith, e .0)))
+    ⊎-elim (λ (l : w .clock < x .clock). before-clock w y (omega (arith, before-clock-le x y k)))
+    (λ (e : (w .clock ≡ x .clock) × (w .origin < x .origin)). ⊎-elim (λ (m : x .clock < y .clock). before-clock w y (omega (arith, e .0)))
     (λ (f : (x .clock ≡ y .clock) × (x .origin < y .origin)). before-origin w y (e .0 ∙ f .0) (omega (arith, e .1, f .1)))
-    (before-cases x y k))
-    (before-cases w x h)
+    (before-cases x y k)) (before-cases w x h)
 
 -- Of two writes with one identifier neither is before the other.
 pub before-not-key : {A : Type 0} (w x : Write) → before w x ≡ true → SameKey w x → A
@@ -63,24 +55,17 @@ before-asym w x h k = before-irrefl w (before-trans w x w h k)
 -- Any two writes are in order, or have one identifier.
 pub before-total : (w x : Write) → before w x ≡ false → (before x w ≡ true) ⊎ SameKey w x
 before-total w x h =
-    ⊎-elim
-    (λ (e : ltb (x .clock) (w .clock) ≡ true). inl (before-clock x w (ltb-true (x .clock) (w .clock) e)))
+    ⊎-elim (λ (e : ltb (x .clock) (w .clock) ≡ true). inl (before-clock x w (ltb-true (x .clock) (w .clock) e)))
     (λ (e : ltb (x .clock) (w .clock) ≡ false).
     let le : w .clock ≤ x .clock = ltb-false (x .clock) (w .clock) e in
-    ⊎-elim
-    (λ (d : ltb (w .clock) (x .clock) ≡ true). true-not-false (before-clock w x (ltb-true (w .clock) (x .clock) d)) h)
+    ⊎-elim (λ (d : ltb (w .clock) (x .clock) ≡ true). true-not-false (before-clock w x (ltb-true (w .clock) (x .clock) d)) h)
     (λ (d : ltb (w .clock) (x .clock) ≡ false).
     let c : w .clock ≡ x .clock = omega (arith, ltb-false (w .clock) (x .clock) d) in
-    ⊎-elim
-    (λ (o : ltb (w .origin) (x .origin) ≡ true). true-not-false (before-origin w x c (ltb-true (w .origin) (x .origin) o)) h)
-    (λ (o : ltb (w .origin) (x .origin) ≡ false).
-    ⊎-elim
-    (λ (p : eqb (w .origin) (x .origin) ≡ true). inr (c, eqb-true (w .origin) (x .origin) p))
-    (λ (p : eqb (w .origin) (x .origin) ≡ false).
+    ⊎-elim (λ (o : ltb (w .origin) (x .origin) ≡ true). true-not-false (before-origin w x c (ltb-true (w .origin) (x .origin) o)) h)
+    (λ (o : ltb (w .origin) (x .origin) ≡ false). ⊎-elim
+    (λ (p : eqb (w .origin) (x .origin) ≡ true). inr (c, eqb-true (w .origin) (x .origin) p)) (λ (p : eqb (w .origin) (x .origin) ≡ false).
     inl (before-origin x w (sym c) (omega (arith, ltb-false (w .origin) (x .origin) o, eqb-false (w .origin) (x .origin) p))))
-    (either (eqb (w .origin) (x .origin))))
-    (either (ltb (w .origin) (x .origin))))
-    (either (ltb (w .clock) (x .clock))))
+    (either (eqb (w .origin) (x .origin)))) (either (ltb (w .origin) (x .origin)))) (either (ltb (w .clock) (x .clock))))
     (either (ltb (x .clock) (w .clock)))
 
 -- ---- sameness
@@ -99,10 +84,7 @@ same-true w x h =
 pub same-refl : (w : Write) → same w w ≡ true
 unfolding same
 same-refl w =
-    and-both
-    _
-    _
-    (eq-eqb (w .origin) (w .origin) refl)
+    and-both _ _ (eq-eqb (w .origin) (w .origin) refl)
     (and-both _ _ (eq-eqb (w .clock) (w .clock) refl) (and-both _ _ (eq-eqb (w .item) (w .item) refl) (eq-eqb (w .value) (w .value) refl)))
 
 pub eq-same : (w x : Write) → w ≡ x → same w x ≡ true

@@ -86,17 +86,18 @@ effect-ended (was-exchanged e) = accepted refl
 step-ended : (t : List ℕ) (x : Step) → sound t ≡ true → Ended (step t x .answer) (decode (sizeOf t) t) (rule (sizeOf t) (decode (sizeOf t) t) x .state)
 step-ended t x h =
     let means : Means (sizeOf t) (decode (sizeOf t) t) t = sound-means t h in
-    subst
-    (λ (r : Answer). Ended r (decode (sizeOf t) t) (rule (sizeOf t) (decode (sizeOf t) t) x .state))
-    (sym (step-answer means x))
+    subst (λ (r : Answer). Ended r (decode (sizeOf t) t) (rule (sizeOf t) (decode (sizeOf t) t) x .state)) (sym (step-answer means x))
     (effect-ended (step-effect means x))
 
 -- A refused step, of any code and on any table, answers its code and four zeros and leaves every word.
-pub step-refused : (t : List ℕ) (x : Step) → (step t x .answer .code ≡ 0 → ⊥) → (step t x .answer ≡ refused (step t x .answer .code)) × (step t x .table ≡ t)
+pub step-refused : (t : List ℕ) (x : Step) → (step t x .answer .code ≡ 0 → ⊥)
+    → (step t x .answer ≡ refused (step t x .answer .code)) × (step t x .table ≡ t)
 unfolding refused
-step-refused t x not-done =
-    ⊎-elim (λ h. go h (step-ended t x h)) (λ h. let e : step t x ≡ record { answer = refused 1; table = t } = step-unsound t x h in (ap (λ o. o .answer) e ∙ ap (λ o. refused (o .answer .code)) (sym e), ap (λ o. o .table) e)) (either (sound t))
+step-refused t x not-done = ⊎-elim (λ h. go h (step-ended t x h)) (λ h. unsound (step-unsound t x h)) (either (sound t))
   where
+    unsound : step t x ≡ record { answer = refused 1; table = t } → (step t x .answer ≡ refused (step t x .answer .code)) × (step t x .table ≡ t)
+    unsound e = (ap (λ o. o .answer) e ∙ ap (λ o. refused (o .answer .code)) (sym e), ap (λ o. o .table) e)
+
     go : sound t ≡ true → Ended (step t x .answer) (decode (sizeOf t) t) (rule (sizeOf t) (decode (sizeOf t) t) x .state)
         → (step t x .answer ≡ refused (step t x .answer .code)) × (step t x .table ≡ t)
     go h (accepted e) = absurd (not-done e)
@@ -137,9 +138,7 @@ pub walk-not-1 : (t : List ℕ) (xs : List Step) → sound t ≡ true → (r : A
 unfolding walk onward
 walk-not-1 t [] h r m e = in-nil m
 walk-not-1 t (x ∷ xs) h r m e =
-    ⊎-elim
-    (λ q. step-not-1 t x h (ap (λ a. a .code) (sym q) ∙ e))
-    (λ m′. walk-not-1 (step t x .table) xs (step-sound t x h) r m′ e)
+    ⊎-elim (λ q. step-not-1 t x h (ap (λ a. a .code) (sym q) ∙ e)) (λ m′. walk-not-1 (step t x .table) xs (step-sound t x h) r m′ e)
     (in-cons m)
 
 -- No step of a schedule from a fresh table answers 1, and the table stays sound.

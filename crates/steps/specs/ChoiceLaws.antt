@@ -67,21 +67,15 @@ in-upFrom : (i k j : ℕ) → i ≤ j → j < i + k → In j (upFrom i k)
 unfolding upFrom
 in-upFrom i zero j h l = absurd (omega arith)
 in-upFrom i (suc k) j h l =
-    ⊎-elim
-    (λ e. here (eqb-true j i e))
-    (λ e. there (in-upFrom (suc i) k j (omega (arith, eqb-false j i e)) (omega arith)))
+    ⊎-elim (λ e. here (eqb-true j i e)) (λ e. there (in-upFrom (suc i) k j (omega (arith, eqb-false j i e)) (omega arith)))
     (either (eqb j i))
 
 -- Every server is tried.
 pub around-all : (n start : ℕ) → start < n → (i : ℕ) → i < n → In i (around n start)
 around-all n start h i l =
-    subst
-    (λ (s : List ℕ). In i s)
-    (sym (around-is n start h))
-    (⊎-elim
+    subst (λ (s : List ℕ). In i s) (sym (around-is n start h)) (⊎-elim
     (λ (e : i < start). in-append-right (upFrom start (n - start)) (in-upFrom 0 start i (omega arith) (omega arith)))
-    (λ (e : start ≤ i). in-append-left (upFrom 0 start) (in-upFrom start (n - start) i e (omega arith)))
-    (lt-or-le i start))
+    (λ (e : start ≤ i). in-append-left (upFrom 0 start) (in-upFrom start (n - start) i e (omega arith))) (lt-or-le i start))
 
 -- Nothing but servers is tried.
 onwards-below : (n k i : ℕ) → i < n → (j : ℕ) → In j (onwards n k i) → j < n
@@ -144,11 +138,7 @@ pub choose-none : (n start reach : ℕ) (passes : ℕ → Bool) → start < n �
     → (i : ℕ) → i < n → reaches reach i ≡ true → passes i ≡ false
 unfolding choose
 choose-none n start reach passes h e i l r =
-    not-true-false
-    (passes i)
-    (λ p.
-    true-not-false
-    (and-both (reaches reach i) (passes i) r p)
+    not-true-false (passes i) (λ p. true-not-false (and-both (reaches reach i) (passes i) r p)
     (first-none (λ j. reaches reach j && passes j) (around n start) e i (around-all n start h i l)))
 
 -- ---- reach
@@ -170,14 +160,12 @@ pub reach-some : (n reach : ℕ) → reachInRange n reach ≡ true → (reach �
 unfolding reachInRange reaches
 reach-some zero reach e h = absurd (h (sym (div-one reach) ∙ eqb-true (reach / 2 ^ 0) 0 e))
 reach-some (suc n) reach e h =
-    ⊎-elim
-    (λ (o : eqb (reach % 2) 1 ≡ true).
+    ⊎-elim (λ (o : eqb (reach % 2) 1 ≡ true).
     record {
       server = 0;
       below = omega arith;
       reached = ap (λ r. eqb (r % 2) 1) (div-one reach) ∙ o;
-    })
-    (λ (o : eqb (reach % 2) 1 ≡ false).
+    }) (λ (o : eqb (reach % 2) 1 ≡ false).
     let half : (reach / 2) / 2 ^ n ≡ reach / 2 ^ suc n = div-div-eq-div-mul reach 2 (2 ^ n) ∙ ap (λ m. reach / m) (sym (pow-succ' 2 n)) in
     further (reach-some n (reach / 2) (ap (λ r. eqb r 0) half ∙ e) (λ d. h (omega (arith, eqb-false (reach % 2) 1 o)))))
     (either (eqb (reach % 2) 1))

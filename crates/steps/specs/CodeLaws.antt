@@ -25,16 +25,8 @@ choose-fails : (n start reach : ℕ) (passes : ℕ → Bool) → start < n → (
     → choose n start reach passes ≡ none
 unfolding choose
 choose-fails n start reach passes h none-passes =
-    none-first
-    (λ i. reaches reach i && passes i)
-    (around n start)
-    (λ i m.
-    not-true-false
-    (reaches reach i && passes i)
-    (λ e.
-    true-not-false
-    (and-right (reaches reach i) (passes i) e)
-    (none-passes i (around-below n start h i m) (and-left (reaches reach i) (passes i) e))))
+    none-first (λ i. reaches reach i && passes i) (around n start) (λ i m. not-true-false (reaches reach i && passes i) (λ e. true-not-false
+    (and-right (reaches reach i) (passes i) e) (none-passes i (around-below n start h i m) (and-left (reaches reach i) (passes i) e))))
 
 -- What a read finds, or that it finds nothing, is an answer.
 pub read-code : (i : ℕ) (found : Option Write) → readAnswer i found .code ≡ 0
@@ -69,19 +61,8 @@ module _ (z : Size) (s : State) (some-server : 1 ≤ z .n) (sound : SoundState z
   unfolding reading refuse refused
   reading-says k item reach closed e = reads-closed e
   reading-says k item reach (opened q) e =
-      cond-elim
-      (Says (reads k item reach))
-      (eqb reach 0)
-      (λ t. reads-none q e (eqb-true reach 0 t))
-      (λ t.
-      readFrom-says
-      k
-      item
-      reach
-      q
-      e
-      (eqb-false reach 0 t)
-      _
+      cond-elim (Says (reads k item reach)) (eqb reach 0) (λ t. reads-none q e (eqb-true reach 0 t)) (λ t. readFrom-says k item reach q e
+      (eqb-false reach 0 t) _
       (choose-none (z .n) (startOf q) reach (λ j. upToDateToRead (z .n) q (s .vector j)) (starts some-server sound k q e)))
 
   writeTo-says : (k item value reach : ℕ) (q : Session) → s .slot k ≡ opened q → (reach ≡ 0 → ⊥) → (found roomy : Option ℕ)
@@ -113,22 +94,8 @@ module _ (z : Size) (s : State) (some-server : 1 ≤ z .n) (sound : SoundState z
   writing-says k item value reach closed e = writes-closed e
   writing-says k item value reach (opened q) e =
       let h = starts some-server sound k q e in
-      cond-elim
-      (Says (writes k item value reach))
-      (eqb reach 0)
-      (λ t. writes-none q e (eqb-true reach 0 t))
-      (λ t.
-      writeTo-says
-      k
-      item
-      value
-      reach
-      q
-      e
-      (eqb-false reach 0 t)
-      _
-      _
-      (choose-none (z .n) (startOf q) reach (λ j. upToDateToWrite (z .n) q (s .vector j)) h)
+      cond-elim (Says (writes k item value reach)) (eqb reach 0) (λ t. writes-none q e (eqb-true reach 0 t)) (λ t. writeTo-says k item value
+      reach q e (eqb-false reach 0 t) _ _ (choose-none (z .n) (startOf q) reach (λ j. upToDateToWrite (z .n) q (s .vector j)) h)
       (λ i. choose-some (z .n) (startOf q) reach (λ j. upToDateToWrite (z .n) q (s .vector j)) i h)
       (choose-none (z .n) (startOf q) reach (λ j. upToDateToWrite (z .n) q (s .vector j) && hasRoom z s j) h))
 
@@ -158,14 +125,7 @@ module _ (z : Size) (s : State) (some-server : 1 ≤ z .n) (sound : SoundState z
 
   write-goes : (k item value reach : ℕ) (q : Session) → s .slot k ≡ opened q → (reach ≡ 0 → ⊥)
       → obeyed z s (writes k item value reach)
-      ≡ writeTo
-      z
-      s
-      k
-      item
-      value
-      q
-      (choose (z .n) (startOf q) reach (λ i. upToDateToWrite (z .n) q (s .vector i)))
+      ≡ writeTo z s k item value q (choose (z .n) (startOf q) reach (λ i. upToDateToWrite (z .n) q (s .vector i)))
       (choose (z .n) (startOf q) reach (λ i. upToDateToWrite (z .n) q (s .vector i) && hasRoom z s i))
   unfolding obeyed writing
   write-goes k item value reach q e r = ap (writing z s k item value reach) e ∙ cond-false (eqb reach 0) _ _ (ne-eqb reach 0 r)
@@ -202,8 +162,7 @@ module _ (z : Size) (s : State) (some-server : 1 ≤ z .n) (sound : SoundState z
   behind-code (reads-behind {k = k} {item = item} {reach = reach} b) =
       let q = b .session in
       ap (λ o. o .answer .code) (read-goes k item reach q (b .is) (b .reached))
-      ∙ ap
-      (λ f. readFrom s k item q f .answer .code)
+      ∙ ap (λ f. readFrom s k item q f .answer .code)
       (choose-fails (z .n) (startOf q) reach (λ i. upToDateToRead (z .n) q (s .vector i)) (starts some-server sound k q (b .is)) (b .stale))
   behind-code (writes-behind {k = k} {item = item} {value = value} {reach = reach} b) =
       let q = b .session in
@@ -225,17 +184,8 @@ module _ (z : Size) (s : State) (some-server : 1 ≤ z .n) (sound : SoundState z
       ap (λ o. o .answer .code) (write-goes k item value reach q (b .is) (b .reached))
       ∙ (ap
       (λ f. writeTo z s k item value q (choose (z .n) (startOf q) reach (λ i. upToDateToWrite (z .n) q (s .vector i))) f .answer .code)
-      (choose-fails
-      (z .n)
-      (startOf q)
-      reach
-      (λ i. upToDateToWrite (z .n) q (s .vector i) && hasRoom z s i)
-      h
-      (λ i l r.
-      not-true-false
-      (upToDateToWrite (z .n) q (s .vector i) && hasRoom z s i)
-      (λ t.
-      true-not-false
+      (choose-fails (z .n) (startOf q) reach (λ i. upToDateToWrite (z .n) q (s .vector i) && hasRoom z s i) h (λ i l r. not-true-false
+      (upToDateToWrite (z .n) q (s .vector i) && hasRoom z s i) (λ t. true-not-false
       (and-right (upToDateToWrite (z .n) q (s .vector i)) (hasRoom z s i) t)
       (b .full i l r (and-left (upToDateToWrite (z .n) q (s .vector i)) (hasRoom z s i) t)))))
       ∙ found k item value q _ (λ e. true-not-false (b .upToDate) (choose-none (z .n) (startOf q) reach (λ i. upToDateToWrite (z .n) q (s .vector i)) h e (b .server) (b .below) (b .reachable))))

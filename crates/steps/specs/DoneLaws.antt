@@ -55,10 +55,8 @@ module _ {z : Size} {s : State} (sound : SoundState z s) where
       in-lacking (s .vector target) (s .log source) m,
       λ h. omega (arith, lacking-above (s .vector target) (s .log source) m, sound .covered target w h),
     ),
-    λ h.
-        ⊎-elim
-        (λ l. lacking-in (s .vector target) (h .0) l)
-        (λ l. absurd (h .1 (sound .complete target w (sound .home source w (h .0)) l)))
+    λ h. ⊎-elim
+        (λ l. lacking-in (s .vector target) (h .0) l) (λ l. absurd (h .1 (sound .complete target w (sound .home source w (h .0)) l)))
         (lt-or-le (s .vector target (w .origin)) (w .clock)),
   )
 
@@ -89,15 +87,12 @@ module _ {z : Size} {s : State} (sound : SoundState z s) where
           holds =
               λ w. (
                 λ m. in-insertAll ws (s .log target) (subst (λ (g : List Write). In w g) log-then m),
-                λ m.
-                    subst
-                    (λ (g : List Write). In w g)
-                    (sym log-then)
+                λ m. subst
+                    (λ (g : List Write). In w g) (sym log-then)
                     (⊎-elim (λ m′. insertAll-new ws (s .log target) m′) (λ m′. insertAll-old ws m′) m),
               );
           complete =
-              λ w x m h b.
-              subst (λ (g : List Write). In x g) (sym log-then) (sent-after sound source target most w x m h b);
+              λ w x m h b. subst (λ (g : List Write). In x g) (sym log-then) (sent-after sound source target most w x m h b);
           leaves = refl;
         }
 

@@ -34,10 +34,7 @@ pub data Effect (z : Size) (s : State) : Op → Answer → State → Type 0 wher
       → Effect z s (writes k item value reach) (writeAnswer i (newWrite z s i item value)) (accepted s k q i (newWrite z s i item value))
   was-exchanged : {source target most : ℕ} → (source ≡ target → ⊥)
       → Effect
-      z
-      s
-      (exchanges source target most)
-      (exchangeAnswer source target (goingOver z s source target most))
+      z s (exchanges source target most) (exchangeAnswer source target (goingOver z s source target most))
       (received s target (sent z s source target most))
 
 module _ (z : Size) (s : State) (some-server : 1 ≤ z .n) (sound : SoundState z s) where
@@ -69,11 +66,7 @@ module _ (z : Size) (s : State) (some-server : 1 ≤ z .n) (sound : SoundState z
   unfolding reading
   reading-effect k item reach closed e = refusal (reads k item reach) _ (omega arith)
   reading-effect k item reach (opened q) e =
-      cond-elim
-      (Done (reads k item reach))
-      (eqb reach 0)
-      (λ t. refusal (reads k item reach) _ (omega arith))
-      (λ t.
+      cond-elim (Done (reads k item reach)) (eqb reach 0) (λ t. refusal (reads k item reach) _ (omega arith)) (λ t.
       readFrom-effect k item reach q e _ (λ i f. choose-some (z .n) (startOf q) reach (λ j. upToDateToRead (z .n) q (s .vector j)) i (starts some-server sound k q e) f))
 
   writeTo-effect : (k item value reach : ℕ) (q : Session) → s .slot k ≡ opened q → (found roomy : Option ℕ)
@@ -88,30 +81,14 @@ module _ (z : Size) (s : State) (some-server : 1 ≤ z .n) (sound : SoundState z
   unfolding writing
   writing-effect k item value reach closed e = refusal (writes k item value reach) _ (omega arith)
   writing-effect k item value reach (opened q) e =
-      cond-elim
-      (Done (writes k item value reach))
-      (eqb reach 0)
-      (λ t. refusal (writes k item value reach) _ (omega arith))
-      (λ t.
-      writeTo-effect
-      k
-      item
-      value
-      reach
-      q
-      e
-      _
-      _
-      (λ i f.
+      cond-elim (Done (writes k item value reach)) (eqb reach 0) (λ t. refusal (writes k item value reach) _ (omega arith)) (λ t.
+      writeTo-effect k item value reach q e _ _ (λ i f.
       choose-some (z .n) (startOf q) reach (λ j. upToDateToWrite (z .n) q (s .vector j) && hasRoom z s j) i (starts some-server sound k q e) f))
 
   exchanging-effect : (source target most : ℕ) → Done (exchanges source target most) (exchanging z s source target most)
   unfolding exchanging
   exchanging-effect source target most =
-      cond-elim
-      (Done (exchanges source target most))
-      (eqb source target)
-      (λ t. refusal (exchanges source target most) _ (omega arith))
+      cond-elim (Done (exchanges source target most)) (eqb source target) (λ t. refusal (exchanges source target most) _ (omega arith))
       (λ t. was-exchanged (eqb-false source target t))
 
   -- Every step has one of the six effects.

@@ -39,11 +39,8 @@ pub given-exactly : (t : List ℕ) (x : Step) (c : ℕ) → 2 ≤ c
     → (step t x .answer .code ≡ c) ↔ ((sound t ≡ true) × Given (sizeOf t) (decode (sizeOf t) t) (asked (sizeOf t) x) c)
 unfolding refused rule
 given-exactly t x c l = (
-  λ e.
-      ⊎-elim
-      (λ h. (h, of t x h c l .0 (ap (λ r. r .code) (sym (step-answer (sound-means t h) x)) ∙ e)))
-      (λ h. absurd (omega (arith, ap (λ o. o .answer .code) (step-unsound t x h))))
-      (either (sound t)),
+  λ e. ⊎-elim (λ h. (h, of t x h c l .0 (ap (λ r. r .code) (sym (step-answer (sound-means t h) x)) ∙ e)))
+      (λ h. absurd (omega (arith, ap (λ o. o .answer .code) (step-unsound t x h)))) (either (sound t)),
   λ g. ap (λ r. r .code) (step-answer (sound-means t (g .0)) x) ∙ of t x (g .0) c l .1 (g .1),
 )
   where
@@ -132,10 +129,7 @@ module _ (t : List ℕ) (x : Step) (is-sound : sound t ≡ true) (done : step t 
   happened : (o : Op) → asked z x ≡ o → Effect z s o (step t x .answer) after
   happened o e =
       let means : Means z s t = sound-means t is-sound in
-      subst₂
-      (λ (r : Answer) (u : State). Effect z s o r u)
-      (sym (step-answer means x))
-      (sym (means-state (means-next means x)))
+      subst₂ (λ (r : Answer) (u : State). Effect z s o r u) (sym (step-answer means x)) (sym (means-state (means-next means x)))
       (subst (λ (p : Op). Effect z s p (rule z s x .answer) (rule z s x .state)) e (step-effect means x))
 
   pub read-exactly : (k item reach : ℕ) → asked z x ≡ reads k item reach → ReadDone z s k item reach (step t x .answer) after

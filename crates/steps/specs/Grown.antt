@@ -44,23 +44,14 @@ module _ {z : Size} {s : State} (sound : SoundState z s) (i item value : ℕ) (s
   new-gapless : (c : ℕ) → newWrite z s i item value .clock ≡ suc (suc c) → Timed (s .log i) (suc c)
   unfolding newWrite
   new-gapless c e =
-      ⊎-elim
-      (λ q. absurd (omega arith))
-      (λ (g : GreatestAt (z .n) (s .vector i)).
-      ⊎-elim
-      (λ q. absurd (omega (arith, g .equal)))
+      ⊎-elim (λ q. absurd (omega arith)) (λ (g : GreatestAt (z .n) (s .vector i)). ⊎-elim (λ q. absurd (omega (arith, g .equal)))
       (λ (f : Witness (s .log i) (g .at) (s .vector i (g .at))).
-      record { write = f .write; stored = f .stored; timed = omega (arith, f .timed, g .equal) })
-      (sound .attained i (g .at)))
+      record { write = f .write; stored = f .stored; timed = omega (arith, f .timed, g .equal) }) (sound .attained i (g .at)))
       (greatest-attained (z .n) (s .vector i))
 
   pub write-grows : hasRoom z s i ≡ true → item < items
       → Grows
-      z
-      s
-      i
-      (newWrite z s i item value ∷ [])
-      (s .log i ++ (newWrite z s i item value ∷ []))
+      z s i (newWrite z s i item value ∷ []) (s .log i ++ (newWrite z s i item value ∷ []))
       (upd (s .vector i) i (newWrite z s i item value .clock))
   unfolding hasRoom newWrite
   write-grows room inRange =
@@ -77,42 +68,21 @@ module _ {z : Size} {s : State} (sound : SoundState z s) (i item value : ℕ) (s
         newItem = one (λ x. x .item < items) inRange;
         newStarted = one (λ x. 1 ≤ x .clock) (omega arith);
         newGapless =
-            one
-            (λ x. (c : ℕ) → x .clock ≡ suc (suc c) → Timed (s .log i ++ (w ∷ [])) (suc c))
-            (λ c e.
+            one (λ x. (c : ℕ) → x .clock ≡ suc (suc c) → Timed (s .log i ++ (w ∷ [])) (suc c)) (λ c e.
             let f : Timed (s .log i) (suc c) = new-gapless c e in
             record { write = f .write; stored = in-append-left (w ∷ []) (f .stored); timed = f .timed });
         newHome = one (λ x. (x .origin ≡ i) ⊎ In x (s .log (x .origin))) (inl refl);
         newOwn = one (λ x. x .origin ≡ i → s .vector i i < x .clock) (λ e. new-above i server);
         above =
-            λ j.
-            upd-elim
-            (λ c. s .vector i j ≤ c)
-            (s .vector i)
-            i
-            (w .clock)
-            j
-            (λ e. omega (arith, new-above i server, ap (s .vector i) e))
+            λ j. upd-elim (λ c. s .vector i j ≤ c) (s .vector i) i (w .clock) j (λ e. omega (arith, new-above i server, ap (s .vector i) e))
             (λ e. omega arith);
         newCovered =
-            one
-            (λ x. x .clock ≤ upd (s .vector i) i (w .clock) (x .origin))
-            (omega (arith, upd-same (s .vector i) i (w .clock) i refl));
+            one (λ x. x .clock ≤ upd (s .vector i) i (w .clock) (x .origin)) (omega (arith, upd-same (s .vector i) i (w .clock) i refl));
         followed =
-            λ j.
-            upd-elim
-            (λ c. (c ≡ s .vector i j) ⊎ Witness (w ∷ []) j c)
-            (s .vector i)
-            i
-            (w .clock)
-            j
-            (λ e. inr (record { write = w; stored = here refl; from = sym e; timed = refl }))
-            (λ e. inl refl);
+            λ j. upd-elim (λ c. (c ≡ s .vector i j) ⊎ Witness (w ∷ []) j c) (s .vector i) i (w .clock) j
+            (λ e. inr (record { write = w; stored = here refl; from = sym e; timed = refl })) (λ e. inl refl);
         fetched =
-            λ x e m l.
-            in-append-left
-            (w ∷ [])
-            (sound .complete i x m (omega (arith, upd-other (s .vector i) i (w .clock) (x .origin) e)));
+            λ x e m l. in-append-left (w ∷ []) (sound .complete i x m (omega (arith, upd-other (s .vector i) i (w .clock) (x .origin) e)));
       }
 
 -- ---- an exchange
@@ -149,22 +119,10 @@ module _ {z : Size} {s : State} (sound : SoundState z s) (source target most : �
       → In x (insertAll (sent z s source target most) (s .log target))
   unfolding sent
   sent-after w x m h b =
-      ⊎-elim
-      (λ (e : ltb (s .vector target (x .origin)) (x .clock) ≡ true).
-      insertAll-new
-      (sent z s source target most)
-      (s .log target)
-      (take-before
-      (goingOver z s source target most)
-      (lacking-ascending (s .vector target) (sound .ascending source))
-      w
-      x
-      m
-      (lacking-in (s .vector target) h (ltb-true (s .vector target (x .origin)) (x .clock) e))
-      b))
-      (λ (e : ltb (s .vector target (x .origin)) (x .clock) ≡ false).
-      insertAll-old
-      (sent z s source target most)
+      ⊎-elim (λ (e : ltb (s .vector target (x .origin)) (x .clock) ≡ true). insertAll-new (sent z s source target most) (s .log target)
+      (take-before (goingOver z s source target most) (lacking-ascending (s .vector target) (sound .ascending source)) w x m
+      (lacking-in (s .vector target) h (ltb-true (s .vector target (x .origin)) (x .clock) e)) b))
+      (λ (e : ltb (s .vector target (x .origin)) (x .clock) ≡ false). insertAll-old (sent z s source target most)
       (sound .complete target x (sound .home source x h) (ltb-false (s .vector target (x .origin)) (x .clock) e)))
       (either (ltb (s .vector target (x .origin)) (x .clock)))
 
@@ -172,33 +130,21 @@ module _ {z : Size} {s : State} (sound : SoundState z s) (source target most : �
   sent-fetched : (w : Write) → In w (s .log (w .origin)) → w .clock ≤ follow (sent z s source target most) (s .vector target) (w .origin)
       → In w (insertAll (sent z s source target most) (s .log target))
   sent-fetched w m l =
-      ⊎-elim
-      (λ e. insertAll-old (sent z s source target most) (sound .complete target w m (omega arith)))
+      ⊎-elim (λ e. insertAll-old (sent z s source target most) (sound .complete target w m (omega arith)))
       (λ (f : Witness (sent z s source target most) (w .origin) (follow (sent z s source target most) (s .vector target) (w .origin))).
       let x = f .write in
       let k = sound .covered source x (sent-from x (f .stored)) in
       let h : In w (s .log source) = sound .complete source w m (omega (arith, k, f .timed, ap (s .vector source) (f .from))) in
-      ⊎-elim
-      (λ (e : ltb (w .clock) (x .clock) ≡ true). sent-after x w (f .stored) h (before-clock w x (ltb-true (w .clock) (x .clock) e)))
+      ⊎-elim (λ (e : ltb (w .clock) (x .clock) ≡ true). sent-after x w (f .stored) h (before-clock w x (ltb-true (w .clock) (x .clock) e)))
       (λ (e : ltb (w .clock) (x .clock) ≡ false).
       let same : w .clock ≡ x .clock = omega (arith, ltb-false (w .clock) (x .clock) e, f .timed) in
-      insertAll-new
-      (sent z s source target most)
-      (s .log target)
-      (subst
-      (λ (y : Write). In y (sent z s source target most))
-      (key-unique (sound .ascending source) x w (sent-from x (f .stored)) h (sym same, f .from))
-      (f .stored)))
-      (either (ltb (w .clock) (x .clock))))
-      (follow-either (sent z s source target most) (s .vector target) (w .origin))
+      insertAll-new (sent z s source target most) (s .log target) (subst (λ (y : Write). In y (sent z s source target most))
+      (key-unique (sound .ascending source) x w (sent-from x (f .stored)) h (sym same, f .from)) (f .stored)))
+      (either (ltb (w .clock) (x .clock)))) (follow-either (sent z s source target most) (s .vector target) (w .origin))
 
   pub exchange-grows : target < z .n
       → Grows
-      z
-      s
-      target
-      (sent z s source target most)
-      (insertAll (sent z s source target most) (s .log target))
+      z s target (sent z s source target most) (insertAll (sent z s source target most) (s .log target))
       (follow (sent z s source target most) (s .vector target))
   exchange-grows server =
       let ws = sent z s source target most in
@@ -206,10 +152,7 @@ module _ {z : Size} {s : State} (sound : SoundState z s) (source target most : �
         server = server;
         fits = omega (arith, length-insertAll ws (s .log target), sent-fits, sound .room target);
         ordered =
-            insertAll-ascending
-            ws
-            sent-ascending
-            (sound .ascending target)
+            insertAll-ascending ws sent-ascending (sound .ascending target)
             (λ w x m h k. omega (arith, sent-above w m, sound .covered target x h, k .0, ap (s .vector target) (k .1)));
         old = λ w m. insertAll-old ws m;
         new = λ w m. insertAll-new ws (s .log target) m;

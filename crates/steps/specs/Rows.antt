@@ -1,23 +1,29 @@
 -- 01, "The desk program": the ten rows, as one statement over one list. Assumes nothing.
 use Prim.Native.Nat.{ℕ}
 use mathlib.Core.List.{List, [], _∷_, map}
-use mathlib.Core.Path.{_≡_, refl}
+use mathlib.Core.Bool.{true}
+use mathlib.Core.Path.{_≡_, refl, sym, _∙_, ap}
+use borrow.Author.Tests.{eq-eqb}
+use lib.Dec.{eqb}
+use lib.ListN.{length}
 use Rattle.words.specs.Lists.{keep, first, orElse, blocks, row, part, upd, below}
 use Rattle.words.specs.Tests.{all, zeros, implies}
+use Rattle.words.specs.TestLaws.{and-both}
 use Rattle.vectors.specs.Vector.{dominates, join, greatest}
 use Rattle.logs.specs.Write.{before, same}
 use Rattle.logs.specs.Log.{insert, insertAll, lastOn, lacking, follow}
 use Rattle.logs.specs.Rules.{inRange, goesOn, ordered, ofOrigin, upTo, greatestClock, greatestOf, sameAll, agrees}
 use Rattle.logs.specs.Places.{spelled, places, entry, entries}
-use Rattle.tables.specs.Size.{within}
+use Rattle.tables.specs.Size.{Size, within}
 use Rattle.tables.specs.State.{withVector, withLog, withSlot}
 use Rattle.tables.specs.Layout.{header, vectorAt, countAt, logAt, slotWidth, slotAt, size, headWords, slotWords, encode, sizeOf, logPart, slotPart, sessionOf, slotOf, decode}
 use Rattle.tables.specs.Sound.{ruleA, ruleB, ruleC, ruleD, ruleE, slotSound, ruleF, soundAt, sound}
 use Rattle.tables.specs.Make.{fresh}
-use Rattle.steps.specs.Step.{Step, Answer, reachInRange, openInRange, closeInRange, readInRange, writeInRange, exchangeInRange, ifInRange, ofKind, asked, refused, done}
+use Rattle.steps.specs.Step.{Step, stepWords, Answer, answerWords, reachInRange, openInRange, closeInRange, readInRange, writeInRange, exchangeInRange, ifInRange, ofKind, asked, refused, done}
 use Rattle.steps.specs.Choice.{readYourWrites, monotonicReads, writesFollowReads, monotonicWrites, upToDateToRead, upToDateToWrite, reaches, startOf, next, onwards, around, choose}
 use Rattle.steps.specs.Rules.{refuse, newSession, opening, closing, readAnswer, afterRead, readFrom, reading, newWrite, afterWrite, accepted, writeAnswer, writeTo, hasRoom, writing, goingOver, sent, received, exchangeAnswer, exchanging, obeyed, rule}
-use Rattle.steps.specs.Calls.{written, step, onward, walk}
+use Rattle.steps.specs.RunLaws.{run-fits, stepsOf-stepWords}
+use Rattle.steps.specs.Calls.{lengthsFit, run, written, step, onward, walk}
 
 -- A row: the step's words, and the answer's.
 pub record Row : Type 0 where
@@ -46,7 +52,19 @@ rows =
     ∷ line 3 0 7 3 0 0 0 1 2 60
     ∷ []
 
+abbrev small : Size
+small = record { n = 2; l = 4; p = 1 }
+
 -- The rules give each row its answer.
-pub ten-rows : walk (fresh (record { n = 2; l = 4; p = 1 })) (map (λ r. r .asks) rows) .answers ≡ map (λ r. r .gets) rows
+pub ten-rows : walk (fresh small) (map (λ r. r .asks) rows) .answers ≡ map (λ r. r .gets) rows
 unfolding keep first orElse blocks row part upd below all zeros implies dominates join greatest before same insert insertAll lastOn lacking follow inRange goesOn ordered ofOrigin upTo greatestClock greatestOf sameAll agrees spelled places entry entries within withVector withLog withSlot header vectorAt countAt logAt slotWidth slotAt size headWords slotWords encode sizeOf logPart slotPart sessionOf slotOf decode ruleA ruleB ruleC ruleD ruleE slotSound ruleF soundAt sound fresh reachInRange openInRange closeInRange readInRange writeInRange exchangeInRange ifInRange ofKind asked refused done readYourWrites monotonicReads writesFollowReads monotonicWrites upToDateToRead upToDateToWrite reaches startOf next onwards around choose refuse newSession opening closing readAnswer afterRead readFrom reading newWrite afterWrite accepted writeAnswer writeTo hasRoom writing goingOver sent received exchangeAnswer exchanging obeyed rule written step onward walk
 ten-rows = refl
+
+-- And so does the run on words, into any answer buffer of fifty words.
+pub ten-rows-run : (buffer : List ℕ) → length buffer ≡ 50
+    → run (fresh small) (stepWords (map (λ r. r .asks) rows)) buffer .answers ≡ answerWords (map (λ r. r .gets) rows)
+unfolding lengthsFit stepWords
+ten-rows-run buffer e =
+    let fit : lengthsFit (stepWords (map (λ r. r .asks) rows)) buffer ≡ true = and-both (eqb 50 (length buffer)) true (eq-eqb 50 (length buffer) (sym e)) refl in
+    ap (λ r. r .answers) (run-fits (fresh small) (stepWords (map (λ r. r .asks) rows)) buffer fit)
+    ∙ ap answerWords (ap (λ xs. walk (fresh small) xs .answers) (stepsOf-stepWords (map (λ r. r .asks) rows)) ∙ ten-rows)

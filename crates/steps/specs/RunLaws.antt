@@ -22,15 +22,13 @@ use Rattle.steps.specs.CallLaws.{step-unsound, means-next, walk-unsound}
 -- No step changes the table's length.
 pub step-length : (t : List ℕ) (x : Step) → length (step t x .table) ≡ length t
 step-length t x =
-    ⊎-elim
-    (λ h.
+    ⊎-elim (λ h.
     let was = sound-means t h in
     let is = means-next was x in
     ap length (is .words)
     ∙ (length-encode (sizeOf t) _ (λ i l. is .state .room i)
     ∙ sym (ap length (was .words) ∙ length-encode (sizeOf t) _ (λ i l. was .state .room i))))
-    (λ h. ap (λ o. length (o .table)) (step-unsound t x h))
-    (either (sound t))
+    (λ h. ap (λ o. length (o .table)) (step-unsound t x h)) (either (sound t))
 
 pub walk-length : (t : List ℕ) (xs : List Step) → length (walk t xs .table) ≡ length t
 unfolding walk onward
@@ -95,8 +93,7 @@ module _ (t steps answers : List ℕ) where
   pub run-lengths : (length (run t steps answers .table) ≡ length t) × (length (run t steps answers .answers) ≡ length answers)
   unfolding lengthsFit
   run-lengths =
-      ⊎-elim
-      (λ h.
+      ⊎-elim (λ h.
       let r = run-fits h in
       let same = eqb-true (length steps) (length answers) (and-left (eqb (length steps) (length answers)) (eqb (length steps % 5) 0) h) in
       let five = eqb-true (length steps % 5) 0 (and-right (eqb (length steps) (length answers)) (eqb (length steps % 5) 0) h) in (

@@ -49,11 +49,8 @@ write-sound n own q c i clock h below =
       used = omega (arith, write-uses q i clock);
       readBelow = λ j. omega (arith, write-reads q i clock j, c .readBelow j);
       writeBelow =
-          λ j.
-          ⊎-elim
-          (λ e. omega (arith, write-sets q i clock j (eqb-true j i e), ap own (eqb-true j i e)))
-          (λ e. omega (arith, write-leaves q i clock j (eqb-false j i e), c .writeBelow j))
-          (either (eqb j i));
+          λ j. ⊎-elim (λ e. omega (arith, write-sets q i clock j (eqb-true j i e), ap own (eqb-true j i e)))
+          (λ e. omega (arith, write-leaves q i clock j (eqb-false j i e), c .writeBelow j)) (either (eqb j i));
     }
 
 -- ---- the six effects
@@ -65,11 +62,7 @@ module _ {z : Size} {s : State} (sound : SoundState z s) where
   -- An accepted write's growth.
   pub written-grows : (k item value reach : ℕ) (q : Session) (i : ℕ) → InRange z (writes k item value reach) → ChosenToWrite z s q reach i
       → Grows
-      z
-      s
-      i
-      (newWrite z s i item value ∷ [])
-      (s .log i ++ (newWrite z s i item value ∷ []))
+      z s i (newWrite z s i item value ∷ []) (s .log i ++ (newWrite z s i item value ∷ []))
       (upd (s .vector i) i (newWrite z s i item value .clock))
   written-grows k item value reach q i range c =
       write-grows sound i item value (c .server) (and-right (upToDateToWrite (z .n) q (s .vector i)) (hasRoom z s i) (c .passed)) (range .1)
@@ -82,26 +75,9 @@ module _ {z : Size} {s : State} (sound : SoundState z s) where
       let u = upd (s .vector i) i (w .clock) in
       let grows = written-grows k item value reach q i range c in
       let grown : SoundState z (withVector (withLog s i (s .log i ++ (w ∷ []))) i u) = grows-sound sound grows in
-      slot-sound
-      grown
-      k
-      (opened (afterWrite q i (w .clock)))
-      (range .0)
-      (write-sound
-      (z .n)
-      (λ j. upd (s .vector) i u j j)
-      q
-      (slot-above
-      (z .n)
-      (λ j. s .vector j j)
-      (λ j. upd (s .vector) i u j j)
-      (grows-above sound grows)
-      (opened q)
-      (session-sound k q e))
-      i
-      (w .clock)
-      (c .server)
-      (omega (arith, ap (λ (v : ℕ → ℕ). v i) (upd-same (s .vector) i u i refl), upd-same (s .vector i) i (w .clock) i refl)))
+      slot-sound grown k (opened (afterWrite q i (w .clock))) (range .0) (write-sound (z .n) (λ j. upd (s .vector) i u j j) q (slot-above
+      (z .n) (λ j. s .vector j j) (λ j. upd (s .vector) i u j j) (grows-above sound grows) (opened q) (session-sound k q e)) i (w .clock)
+      (c .server) (omega (arith, ap (λ (v : ℕ → ℕ). v i) (upd-same (s .vector) i u i refl), upd-same (s .vector i) i (w .clock) i refl)))
 
   pub effect-sound : {o : Op} {r : Answer} {after : State} → InRange z o → Effect z s o r after → SoundState z after
   unfolding received
@@ -110,11 +86,7 @@ module _ {z : Size} {s : State} (sound : SoundState z s) where
       slot-sound sound k (opened (newSession g)) (range .0) (new-sound (z .n) (λ j. s .vector j j) g (range .1))
   effect-sound range (was-closed {k = k} q e) = slot-sound sound k closed range tt
   effect-sound range (was-read {k = k} q i e c) =
-      slot-sound
-      sound
-      k
-      (opened (afterRead q i (s .vector i)))
-      (range .0)
+      slot-sound sound k (opened (afterRead q i (s .vector i))) (range .0)
       (read-sound (z .n) (λ j. s .vector j j) q (session-sound k q e) i (s .vector i) (c .server) (vector-below-own sound i))
   effect-sound range (was-written {k = k} {item = item} {value = value} {reach = reach} q i e c) =
       written-sound k item value reach q i range e c

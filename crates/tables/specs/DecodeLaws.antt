@@ -63,23 +63,14 @@ module _ (z : Size) (s : State) where
     pub vector-shown : decode z (encode z s) .vector ≡ s .vector
     unfolding decode
     vector-shown =
-        below-same
-        (z .n)
-        _
-        (s .vector)
-        _
-        (λ i l. below-same (z .n) _ (s .vector i) 0 (vector-encode z s i l) (h .noComponent i))
+        below-same (z .n) _ (s .vector) _ (λ i l. below-same (z .n) _ (s .vector i) 0 (vector-encode z s i l) (h .noComponent i))
         (λ i l. fun-ext (h .noVector i l))
 
     -- the logs,
     pub log-shown : decode z (encode z s) .log ≡ s .log
     unfolding decode
     log-shown =
-        below-same
-        (z .n)
-        _
-        (s .log)
-        _
+        below-same (z .n) _ (s .log) _
         (λ i l. ap₂ (λ c ws. entries c ws) (count-encode z s i l) (logPart-encode z s (λ k m. h .room k) i l) ∙ entries-places (z .l) (s .log i))
         (h .noLog)
 
@@ -87,11 +78,7 @@ module _ (z : Size) (s : State) where
     pub slot-shown : decode z (encode z s) .slot ≡ s .slot
     unfolding decode
     slot-shown =
-        below-same
-        (z .p)
-        _
-        (s .slot)
-        _
+        below-same (z .p) _ (s .slot) _
         (λ k l. ap (λ ws. slotOf (z .n) (getD ws 0 0) ws) (slotPart-encode z s (λ i m. h .room i) k l) ∙ slotOf-slotWords (z .n) (s .slot k) (h .confined k))
         (h .noSlot)
 
@@ -132,9 +119,7 @@ module _ (z : Size) (t : List ℕ) (len : length t ≡ size z) where
   unfolding headWords size vectorAt countAt
   head-decode i h =
       ap₂ (λ v g. row (z .n) v ++ (length g ∷ [])) (decode-vector z t i h) (decode-log z t i h)
-      ∙ (ap₂
-      (λ (v c : List ℕ). v ++ c)
-      (row-part-below t (4 + i * (z .n + 1)) (z .n) 0 0 (omega (arith, rows (z .n + 1) h)))
+      ∙ (ap₂ (λ (v c : List ℕ). v ++ c) (row-part-below t (4 + i * (z .n + 1)) (z .n) 0 0 (omega (arith, rows (z .n + 1) h)))
       (ap {B = List ℕ} (λ c. c ∷ []) (length-entries _ (logPart z t i)) ∙ part-one t (countAt z i) 0 (omega (arith, rows (z .n + 1) h)))
       ∙ sym (part-add t (4 + i * (z .n + 1)) (z .n) 1))
 
@@ -145,13 +130,8 @@ module _ (z : Size) (t : List ℕ) (len : length t ≡ size z) where
       let c = getD t (countAt z i) 0 in
       let ok = all-at (z .n) _ counts i h in
       ap (places (z .l)) (decode-log z t i h)
-      ∙ places-entries
-      (z .l)
-      c
-      (logPart z t i)
-      (length-part t (logAt z i) (z .l * width) (omega (arith, rows (z .l * width) h)))
-      (leb-true c (z .l) (and-left (leb c (z .l)) _ ok))
-      (and-right (leb c (z .l)) _ ok)
+      ∙ places-entries (z .l) c (logPart z t i) (length-part t (logAt z i) (z .l * width) (omega (arith, rows (z .l * width) h)))
+      (leb-true c (z .l) (and-left (leb c (z .l)) _ ok)) (and-right (leb c (z .l)) _ ok)
 
   -- A slot, by what rule f says of a closed one.
   pub slot-decode : (k : ℕ) → k < z .p → (getD (slotPart z t k) 0 0 ≡ 0 → zeros (slotPart z t k) ≡ true)
@@ -170,8 +150,7 @@ module _ (z : Size) (t : List ℕ) (len : length t ≡ size z) where
 
   -- The table is its header and its three runs.
   pub table-cut : part t 0 4
-      ++ (part t 4 (z .n * (z .n + 1))
-      ++ (part t (4 + z .n * (z .n + 1)) (z .n * (z .l * width))
+      ++ (part t 4 (z .n * (z .n + 1)) ++ (part t (4 + z .n * (z .n + 1)) (z .n * (z .l * width))
       ++ part t (4 + z .n * (z .n + 1) + z .n * (z .l * width)) (z .p * (2 * z .n + 2)))) ≡ t
   unfolding size
   table-cut =
@@ -185,14 +164,8 @@ pub encode-decode : (z : Size) (t : List ℕ) → sizeOf t ≡ z → getD t 3 0 
     → ((k : ℕ) → k < z .p → getD (slotPart z t k) 0 0 ≡ 0 → zeros (slotPart z t k) ≡ true) → encode z (decode z t) ≡ t
 unfolding encode logPart logAt slotPart slotAt slotWidth
 encode-decode z t sizes fourth len counts shut =
-    ap₂
-    (λ (front rest : List ℕ). front ++ rest)
-    (header-decode z t len sizes fourth)
-    (ap₂
-    (λ (front rest : List ℕ). front ++ rest)
-    (blocks-cong (z .n) _ _ (head-decode z t len) ∙ sym (part-blocks t 4 (z .n) (z .n + 1)))
-    (ap₂
-    (λ (front rest : List ℕ). front ++ rest)
+    ap₂ (λ (front rest : List ℕ). front ++ rest) (header-decode z t len sizes fourth) (ap₂ (λ (front rest : List ℕ). front ++ rest)
+    (blocks-cong (z .n) _ _ (head-decode z t len) ∙ sym (part-blocks t 4 (z .n) (z .n + 1))) (ap₂ (λ (front rest : List ℕ). front ++ rest)
     (blocks-cong (z .n) _ _ (log-decode z t len counts) ∙ sym (part-blocks t (4 + z .n * (z .n + 1)) (z .n) (z .l * width)))
     (blocks-cong (z .p) _ _ (λ k h. slot-decode z t len k h (shut k h))
     ∙ sym (part-blocks t (4 + z .n * (z .n + 1) + z .n * (z .l * width)) (z .p) (2 * z .n + 2)))))

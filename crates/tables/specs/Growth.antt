@@ -45,12 +45,9 @@ pub record Grows (z : Size) (s : State) (t : ℕ) (news g : List Write) (v : ℕ
 -- No server knows of a later write of an origin than the origin itself.
 pub vector-below-own : {z : Size} {s : State} → SoundState z s → (i j : ℕ) → s .vector i j ≤ s .vector j j
 vector-below-own {z} {s} sound i j =
-    ⊎-elim
-    (λ e. omega arith)
-    (λ (f : Witness (s .log i) j (s .vector i j)).
+    ⊎-elim (λ e. omega arith) (λ (f : Witness (s .log i) j (s .vector i j)).
     let own = sound .covered (f .write .origin) (f .write) (sound .home i (f .write) (f .stored)) in
-    omega (arith, own, f .timed, ap (λ k. s .vector k k) (f .from)))
-    (sound .attained i j)
+    omega (arith, own, f .timed, ap (λ k. s .vector k k) (f .from))) (sound .attained i j)
 
 -- A slot's session may lag ever further behind.
 pub slot-above : (n : ℕ) (own₁ own₂ : ℕ → ℕ) → ((j : ℕ) → own₁ j ≤ own₂ j) → (o : Slot) → SoundSlot n own₁ o → SoundSlot n own₂ o
@@ -89,37 +86,18 @@ module _ {z : Size} {s : State} (sound : SoundState z s) where
     everywhere : (P : Write → Type 0) → ((w : Write) → In w news → P w) → ((i : ℕ) (w : Write) → In w (s .log i) → P w)
         → (i : ℕ) (w : Write) → In w (upd (s .log) t g i) → P w
     everywhere P came was i w =
-        upd-elim
-        (λ (l : List Write). In w l → P w)
-        (s .log)
-        t
-        g
-        i
-        (λ e m. ⊎-elim (λ m′. came w m′) (λ m′. was t w m′) (grows .only w m))
+        upd-elim (λ (l : List Write). In w l → P w) (s .log) t g i (λ e m. ⊎-elim (λ m′. came w m′) (λ m′. was t w m′) (grows .only w m))
         (λ e m. was i w m)
 
     -- No log loses a write.
     pub grows-keeps : (i : ℕ) (w : Write) → In w (s .log i) → In w (upd (s .log) t g i)
     grows-keeps i w m =
-        upd-elim
-        (λ (l : List Write). In w l)
-        (s .log)
-        t
-        g
-        i
-        (λ e. grows .old w (subst (λ (k : ℕ). In w (s .log k)) e m))
-        (λ e. m)
+        upd-elim (λ (l : List Write). In w l) (s .log) t g i (λ e. grows .old w (subst (λ (k : ℕ). In w (s .log k)) e m)) (λ e. m)
 
     -- No server's own component falls.
     pub grows-above : (j : ℕ) → s .vector j j ≤ upd (s .vector) t v j j
     grows-above j =
-        upd-elim
-        (λ (u : ℕ → ℕ). s .vector j j ≤ u j)
-        (s .vector)
-        t
-        v
-        j
-        (λ e. omega (arith, grows .above j, ap (λ k. s .vector k j) e))
+        upd-elim (λ (u : ℕ → ℕ). s .vector j j ≤ u j) (s .vector) t v j (λ e. omega (arith, grows .above j, ap (λ k. s .vector k j) e))
         (λ e. omega arith)
 
     -- What stands at home of an origin other than t stood there.
@@ -136,15 +114,9 @@ module _ {z : Size} {s : State} (sound : SoundState z s) where
     -- Another server's vector covers none of what came.
     complete-other : (i : ℕ) (w : Write) → In w (upd (s .log) t g (w .origin)) → w .clock ≤ s .vector i (w .origin) → In w (s .log i)
     complete-other i w m l =
-        by-origin
-        w
-        (λ e.
-        ⊎-elim
-        (λ m′.
-        absurd
+        by-origin w (λ e. ⊎-elim (λ m′. absurd
         (omega (arith, grows .newOwn w m′ e, vector-below-own sound i (w .origin), ap (λ k. s .vector k k) e)))
-        (λ m′. sound .complete i w (subst (λ (k : ℕ). In w (s .log k)) (sym e) m′) l)
-        (grows .only w (home-here w e m)))
+        (λ m′. sound .complete i w (subst (λ (k : ℕ). In w (s .log k)) (sym e) m′) l) (grows .only w (home-here w e m)))
         (λ e. sound .complete i w (home-was w e m) l)
 
     complete-here : (w : Write) → In w (upd (s .log) t g (w .origin)) → w .clock ≤ v (w .origin) → In w g
@@ -152,39 +124,25 @@ module _ {z : Size} {s : State} (sound : SoundState z s) where
 
     attained-here : (j : ℕ) → (v j ≡ 0) ⊎ Witness g j (v j)
     attained-here j =
-        ⊎-elim
-        (λ (e : v j ≡ s .vector t j).
-        ⊎-elim
-        (λ q. inl (e ∙ q))
-        (λ (f : Witness (s .log t) j (s .vector t j)).
+        ⊎-elim (λ (e : v j ≡ s .vector t j). ⊎-elim (λ q. inl (e ∙ q)) (λ (f : Witness (s .log t) j (s .vector t j)).
         inr (record { write = f .write; stored = grows .old (f .write) (f .stored); from = f .from; timed = f .timed ∙ sym e }))
-        (sound .attained t j))
-        (λ (f : Witness news j (v j)).
-        inr (record { write = f .write; stored = grows .new (f .write) (f .stored); from = f .from; timed = f .timed }))
-        (grows .followed j)
+        (sound .attained t j)) (λ (f : Witness news j (v j)).
+        inr (record { write = f .write; stored = grows .new (f .write) (f .stored); from = f .from; timed = f .timed })) (grows .followed j)
 
     gapless-here : (w : Write) → In w g → (c : ℕ) → w .clock ≡ suc (suc c) → Timed g (suc c)
     gapless-here w m c e =
-        ⊎-elim
-        (λ m′. grows .newGapless w m′ c e)
-        (λ m′.
+        ⊎-elim (λ m′. grows .newGapless w m′ c e) (λ m′.
         let f : Timed (s .log t) (suc c) = sound .gapless t w m′ c e in
-        record { write = f .write; stored = grows .old (f .write) (f .stored); timed = f .timed })
-        (grows .only w m)
+        record { write = f .write; stored = grows .old (f .write) (f .stored); timed = f .timed }) (grows .only w m)
 
     covered-here : (w : Write) → In w g → w .clock ≤ v (w .origin)
     covered-here w m =
-        ⊎-elim
-        (λ m′. grows .newCovered w m′)
-        (λ m′. omega (arith, sound .covered t w m′, grows .above (w .origin)))
-        (grows .only w m)
+        ⊎-elim (λ m′. grows .newCovered w m′) (λ m′. omega (arith, sound .covered t w m′, grows .above (w .origin))) (grows .only w m)
 
     home-still : (w : Write) → In w news → In w (upd (s .log) t g (w .origin))
     home-still w m =
-        ⊎-elim
-        (λ e. subst (λ (l : List Write). In w l) (sym (upd-same (s .log) t g (w .origin) e)) (grows .new w m))
-        (λ h. grows-keeps (w .origin) w h)
-        (grows .newHome w m)
+        ⊎-elim (λ e. subst (λ (l : List Write). In w l) (sym (upd-same (s .log) t g (w .origin) e)) (grows .new w m))
+        (λ h. grows-keeps (w .origin) w h) (grows .newHome w m)
 
     -- The server at t, or another.
     at-server : (i : ℕ) (P : List Write → (ℕ → ℕ) → Type 0) → P g v → P (s .log i) (s .vector i) → P (upd (s .log) t g i) (upd (s .vector) t v i)
@@ -211,19 +169,12 @@ module _ {z : Size} {s : State} (sound : SoundState z s) where
           attained = λ i. at-server i (λ l u. (j : ℕ) → (u j ≡ 0) ⊎ Witness l j (u j)) attained-here (sound .attained i);
           home =
               everywhere
-              (λ w. In w (upd (s .log) t g (w .origin)))
-              home-still
-              (λ i w m. grows-keeps (w .origin) w (sound .home i w m));
+              (λ w. In w (upd (s .log) t g (w .origin))) home-still (λ i w m. grows-keeps (w .origin) w (sound .home i w m));
           complete =
-              λ i.
-              at-server
-              i
-              (λ l u. (w : Write) → In w (upd (s .log) t g (w .origin)) → w .clock ≤ u (w .origin) → In w l)
-              complete-here
+              λ i. at-server i (λ l u. (w : Write) → In w (upd (s .log) t g (w .origin)) → w .clock ≤ u (w .origin) → In w l) complete-here
               (complete-other i);
           slots =
-              λ k.
-              slot-above (z .n) (λ j. s .vector j j) (λ j. upd (s .vector) t v j j) grows-above (s .slot k) (sound .slots k);
+              λ k. slot-above (z .n) (λ j. s .vector j j) (λ j. upd (s .vector) t v j j) grows-above (s .slot k) (sound .slots k);
           noServer = λ i l. upd-other (s .log) t g i (λ e. omega (arith, grows .server)) ∙ sound .noServer i l;
           noSlot = sound .noSlot;
         }

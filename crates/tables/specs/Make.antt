@@ -20,9 +20,7 @@ pub record Made : Type 0 where
 -- 01, "Answer codes": "Making a table tests 2, then 8 (buffer length must be exact), and writes nothing if refused."
 unfoldable pub making : Size → List ℕ → Made
 making z buffer =
-    cond
-    (within z)
-    (cond (eqb (length buffer) (size z)) (record { code = 0; buffer = fresh z }) (record { code = 8; buffer = buffer }))
+    cond (within z) (cond (eqb (length buffer) (size z)) (record { code = 0; buffer = fresh z }) (record { code = 8; buffer = buffer }))
     (record { code = 2; buffer = buffer })
 
 -- The promise of making: the code and every word of the buffer are those of `making`.

@@ -30,8 +30,7 @@ fresh-encode z =
     let b = z .n * (z .l * width) in
     let c = z .p * (2 * z .n + 2) in
     let e : size z - 4 ≡ a + (b + c) = omega arith in
-    sym
-    (rw (
+    sym (rw (
       blocks-replicate 0 (z .n) (z .n + 1) (headWords z empty) (λ i h. headWords-empty z i),
       blocks-replicate 0 (z .n) (z .l * width) (λ i. places (z .l) []) (λ i h. places-nil (z .l)),
       blocks-replicate 0 (z .p) (2 * z .n + 2) (λ k. slotWords (z .n) closed) (λ k h. refl),
@@ -60,22 +59,13 @@ module _ (z : Size) (buffer : List ℕ) where
   make-cases : {A : Type 0} → (within z ≡ false → A) → (within z ≡ true → (length buffer ≡ size z → ⊥) → A)
       → (within z ≡ true → length buffer ≡ size z → A) → A
   make-cases limits misfit fit =
-      ⊎-elim
-      (λ e.
-      ⊎-elim
-      (λ h. fit e (eqb-true (length buffer) (size z) h))
-      (λ h. misfit e (eqb-false (length buffer) (size z) h))
-      (either (eqb (length buffer) (size z))))
-      limits
-      (either (within z))
+      ⊎-elim (λ e. ⊎-elim (λ h. fit e (eqb-true (length buffer) (size z) h)) (λ h. misfit e (eqb-false (length buffer) (size z) h))
+      (either (eqb (length buffer) (size z)))) limits (either (within z))
 
   -- "Making a table tests 2, ..": 2 exactly if N, L or P is out of range,
   pub make-2-exactly : (making z buffer .code ≡ 2) ↔ (within z ≡ false)
   make-2-exactly = (
-    λ e.
-        make-cases
-        (λ l. l)
-        (λ l h. absurd (omega (arith, ap (λ m. m .code) (make-length l h))))
+    λ e. make-cases (λ l. l) (λ l h. absurd (omega (arith, ap (λ m. m .code) (make-length l h))))
         (λ l h. absurd (omega (arith, ap (λ m. m .code) (make-done l h)))),
     λ l. ap (λ m. m .code) (make-limits l),
   )
@@ -83,10 +73,7 @@ module _ (z : Size) (buffer : List ℕ) where
   -- ".. then 8": 8 exactly if they are in range and the buffer's length is not exact.
   pub make-8-exactly : (making z buffer .code ≡ 8) ↔ ((within z ≡ true) × (length buffer ≡ size z → ⊥))
   make-8-exactly = (
-    λ e.
-        make-cases
-        (λ l. absurd (omega (arith, ap (λ m. m .code) (make-limits l))))
-        (λ l h. (l, h))
+    λ e. make-cases (λ l. absurd (omega (arith, ap (λ m. m .code) (make-limits l)))) (λ l h. (l, h))
         (λ l h. absurd (omega (arith, ap (λ m. m .code) (make-done l h)))),
     λ l. ap (λ m. m .code) (make-length (l .0) (l .1)),
   )
@@ -94,18 +81,14 @@ module _ (z : Size) (buffer : List ℕ) where
   -- ".. and writes nothing if refused."
   pub make-refused : (making z buffer .code ≡ 0 → ⊥) → making z buffer .buffer ≡ buffer
   make-refused h =
-      make-cases
-      (λ l. ap (λ m. m .buffer) (make-limits l))
-      (λ l e. ap (λ m. m .buffer) (make-length l e))
+      make-cases (λ l. ap (λ m. m .buffer) (make-limits l)) (λ l e. ap (λ m. m .buffer) (make-length l e))
       (λ l e. absurd (h (ap (λ m. m .code) (make-done l e))))
 
   -- What is made is a fresh table within the limits.
   pub made-fresh : making z buffer .code ≡ 0 → (within z ≡ true) × (making z buffer .buffer ≡ fresh z)
   made-fresh e =
-      make-cases
-      (λ l. absurd (omega (arith, ap (λ m. m .code) (make-limits l))))
-      (λ l h. absurd (omega (arith, ap (λ m. m .code) (make-length l h))))
-      (λ l h. (l, ap (λ m. m .buffer) (make-done l h)))
+      make-cases (λ l. absurd (omega (arith, ap (λ m. m .code) (make-limits l))))
+      (λ l h. absurd (omega (arith, ap (λ m. m .code) (make-length l h)))) (λ l h. (l, ap (λ m. m .buffer) (make-done l h)))
 
   -- Two results that the promise of making allows are equal.
   pub make-settled : (c₁ c₂ : ℕ) (l₁ l₂ : List ℕ) → MakePromise z buffer c₁ l₁ → MakePromise z buffer c₂ l₂ → (c₁ ≡ c₂) × (l₁ ≡ l₂)

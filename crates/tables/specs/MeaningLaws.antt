@@ -34,63 +34,31 @@ module _ (z : Size) (s : State) (limits : within z ≡ true) (state : SoundState
   pub encode-ruleA : ruleA z (encode z s) ≡ true
   unfolding ruleA
   encode-ruleA =
-      and-both
-      _
-      _
-      limits
-      (and-both
-      _
-      _
-      (eq-eqb (getD (encode z s) 3 0) 0 (fourth-encode z s))
+      and-both _ _ limits (and-both _ _ (eq-eqb (getD (encode z s) 3 0) 0 (fourth-encode z s))
       (eq-eqb (length (encode z s)) (size z) (length-encode z s (λ i l. state .room i))))
 
   pub encode-ruleB : ruleB z (encode z s) ≡ true
   unfolding ruleB
   encode-ruleB =
-      all-make
-      (z .n)
-      (λ i.
+      all-make (z .n) (λ i.
       leb (getD (encode z s) (countAt z i) 0) (z .l) && zeros (drop (getD (encode z s) (countAt z i) 0 * width) (logPart z (encode z s) i)))
-      (λ i l.
-      subst₂
-      (λ (c : ℕ) (ws : List ℕ). (leb c (z .l) && zeros (drop (c * width) ws)) ≡ true)
-      (sym (count-encode z s i l))
-      (sym (logPart-encode z s (λ j m. state .room j) i l))
-      (and-both
-      (leb (length (s .log i)) (z .l))
-      (zeros (drop (length (s .log i) * width) (places (z .l) (s .log i))))
-      (le-leb (length (s .log i)) (z .l) (state .room i))
+      (λ i l. subst₂ (λ (c : ℕ) (ws : List ℕ). (leb c (z .l) && zeros (drop (c * width) ws)) ≡ true) (sym (count-encode z s i l))
+      (sym (logPart-encode z s (λ j m. state .room j) i l)) (and-both (leb (length (s .log i)) (z .l))
+      (zeros (drop (length (s .log i) * width) (places (z .l) (s .log i)))) (le-leb (length (s .log i)) (z .l) (state .room i))
       (zeros-places (z .l) (s .log i))))
 
   encode-soundAt : soundAt z s (encode z s) ≡ true
   unfolding soundAt
   encode-soundAt =
-      and-both
-      (ruleA z (encode z s))
-      _
-      encode-ruleA
-      (and-both
-      (ruleB z (encode z s))
-      _
-      encode-ruleB
-      (and-both
-      (ruleC z s)
-      _
-      (sound-ruleC state)
-      (and-both
-      (ruleD z s)
-      _
-      (sound-ruleD state)
+      and-both (ruleA z (encode z s)) _ encode-ruleA (and-both (ruleB z (encode z s)) _ encode-ruleB (and-both (ruleC z s) _
+      (sound-ruleC state) (and-both (ruleD z s) _ (sound-ruleD state)
       (and-both (ruleE z s) _ (sound-ruleE state) (sound-ruleF state (encode z s) (slotPart-encode z s (λ i l. state .room i)))))))
 
   pub encode-sound : sound (encode z s) ≡ true
   unfolding sound
   encode-sound =
-      subst₂
-      (λ (y : Size) (u : State). soundAt y u (encode z s) ≡ true)
-      (sym (sizeOf-encode z s))
-      (sym (ap (λ y. decode y (encode z s)) (sizeOf-encode z s) ∙ decode-encode z s state))
-      encode-soundAt
+      subst₂ (λ (y : Size) (u : State). soundAt y u (encode z s) ≡ true) (sym (sizeOf-encode z s))
+      (sym (ap (λ y. decode y (encode z s)) (sizeOf-encode z s) ∙ decode-encode z s state)) encode-soundAt
 
 -- ---- a table that passes is the words of a sound state
 
@@ -130,16 +98,13 @@ module _ (z : Size) (t : List ℕ) (passes : soundAt z (decode z t) t ≡ true) 
   unfolding decode
   outside i j (inl l) = ap (λ (v : ℕ → ℕ). v j) (below-past (z .n) _ (λ m. 0) i l)
   outside i j (inr l) =
-      ⊎-elim
-      (λ m. ap (λ (v : ℕ → ℕ). v j) (below-in (z .n) _ (λ c. 0) i m) ∙ below-past (z .n) _ 0 j l)
-      (λ m. ap (λ (v : ℕ → ℕ). v j) (below-past (z .n) _ (λ c. 0) i m))
-      (lt-or-le i (z .n))
+      ⊎-elim (λ m. ap (λ (v : ℕ → ℕ). v j) (below-in (z .n) _ (λ c. 0) i m) ∙ below-past (z .n) _ 0 j l)
+      (λ m. ap (λ (v : ℕ → ℕ). v j) (below-past (z .n) _ (λ c. 0) i m)) (lt-or-le i (z .n))
 
   fits : (i : ℕ) → length (decode z t .log i) ≤ z .l
   unfolding ruleB
   fits i =
-      ⊎-elim
-      (λ m.
+      ⊎-elim (λ m.
       let count = getD t (countAt z i) 0 in
       let b = all-at (z .n) _ b-holds i m in
       omega (
@@ -148,42 +113,25 @@ module _ (z : Size) (t : List ℕ) (passes : soundAt z (decode z t) t ≡ true) 
         length-entries count (logPart z t i),
         leb-true count (z .l) (and-left (leb count (z .l)) (zeros (drop (count * width) (logPart z t i))) b),
       ))
-      (λ m. omega (arith, ap length (no-server i m)))
-      (lt-or-le i (z .n))
+      (λ m. omega (arith, ap length (no-server i m))) (lt-or-le i (z .n))
 
   slots-sound : (k : ℕ) → SoundSlot (z .n) (λ j. decode z t .vector j j) (decode z t .slot k)
   slots-sound k =
       ⊎-elim
       (λ m. subst (SoundSlot (z .n) (λ j. decode z t .vector j j)) (sym (decode-slot z t k m)) (rules-slots z (decode z t) t f-holds k m))
-      (λ m. subst (SoundSlot (z .n) (λ j. decode z t .vector j j)) (sym (no-slot k m)) tt)
-      (lt-or-le k (z .p))
+      (λ m. subst (SoundSlot (z .n) (λ j. decode z t .vector j j)) (sym (no-slot k m)) tt) (lt-or-le k (z .p))
 
   decoded-state : SoundState z (decode z t)
   decoded-state =
-      rules-sound
-      z
-      (decode z t)
-      fits
-      no-server
-      no-slot
-      outside
-      (and-left (ruleC z (decode z t)) _ past-b)
-      (and-left (ruleD z (decode z t)) _ past-c)
-      (and-left (ruleE z (decode z t)) _ past-d)
-      slots-sound
+      rules-sound z (decode z t) fits no-server no-slot outside (and-left (ruleC z (decode z t)) _ past-b)
+      (and-left (ruleD z (decode z t)) _ past-c) (and-left (ruleE z (decode z t)) _ past-d) slots-sound
 
   decoded-words : sizeOf t ≡ z → encode z (decode z t) ≡ t
   unfolding ruleA ruleF
   decoded-words e =
       let past = and-right (within z) _ a-holds in
-      encode-decode
-      z
-      t
-      e
-      (eqb-true (getD t 3 0) 0 (and-left (eqb (getD t 3 0) 0) _ past))
-      (eqb-true (length t) (size z) (and-right (eqb (getD t 3 0) 0) _ past))
-      b-holds
-      (λ k m.
+      encode-decode z t e (eqb-true (getD t 3 0) 0 (and-left (eqb (getD t 3 0) 0) _ past))
+      (eqb-true (length t) (size z) (and-right (eqb (getD t 3 0) 0) _ past)) b-holds (λ k m.
       closed-zeros (z .n) (λ j. decode z t .vector j j) (slotPart z t k) (all-at (z .p) _ f-holds k m))
 
   decoded-limits : within z ≡ true

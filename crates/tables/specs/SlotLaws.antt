@@ -39,12 +39,7 @@ module _ (n : ℕ) (q : Session) where
   pub slot-writeVector : (j : ℕ) → j < n → getD (slotWords n (opened q)) (2 + n + j) 0 ≡ q .writeVector j
   unfolding slotWords
   slot-writeVector j h =
-      getD-right
-      (suc (q .guarantees) ∷ q .lastUsed ∷ row n (q .readVector))
-      (row n (q .writeVector))
-      (2 + n)
-      j
-      0
+      getD-right (suc (q .guarantees) ∷ q .lastUsed ∷ row n (q .readVector)) (row n (q .writeVector)) (2 + n) j 0
       (omega (arith, length-row n (q .readVector)))
       ∙ getD-row n (q .writeVector) j 0 h
 
@@ -85,13 +80,9 @@ slotOf-slotWords n (opened q) h = ap opened (sessionOf-slotWords n q h)
 pub slotWords-sessionOf : (n g : ℕ) (ws : List ℕ) → length ws ≡ 2 * n + 2 → getD ws 0 0 ≡ suc g → slotWords n (opened (sessionOf n g ws)) ≡ ws
 unfolding slotWords sessionOf row
 slotWords-sessionOf n g ws len e =
-    ap₂
-    (λ (front vectors : List ℕ). front ++ vectors)
-    (ap {B = List ℕ} (λ x. x ∷ getD ws 1 0 ∷ []) (sym e) ∙ row-part ws 0 2 0 (omega arith))
-    (ap₂
-    (λ (first second : List ℕ). first ++ second)
-    (row-part-below ws 2 n 0 0 (omega arith))
-    (row-part-below ws (2 + n) n 0 0 (omega arith)))
+    ap₂ (λ (front vectors : List ℕ). front ++ vectors)
+    (ap {B = List ℕ} (λ x. x ∷ getD ws 1 0 ∷ []) (sym e) ∙ row-part ws 0 2 0 (omega arith)) (ap₂
+    (λ (first second : List ℕ). first ++ second) (row-part-below ws 2 n 0 0 (omega arith)) (row-part-below ws (2 + n) n 0 0 (omega arith)))
     ∙ rw (← part-add ws 2 n n, ← part-add ws 0 2 (n + n)) (part-all ws (2 + (n + n)) (omega arith))
 
 -- Words of which all are 0 if the first is.

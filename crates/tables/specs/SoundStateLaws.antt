@@ -35,10 +35,8 @@ module _ (z : Size) (s : State) where
   pub rules-ordered : ((i : ℕ) → z .n ≤ i → s .log i ≡ []) → ruleC z s ≡ true → (i : ℕ) → Ordered 1 (z .n) items (s .log i)
   unfolding ruleC
   rules-ordered noServer c i =
-      ⊎-elim
-      (λ l. ordered-true (z .n) items (s .log i) (all-at (z .n) _ c i l))
-      (λ l. subst (λ g. Ordered 1 (z .n) items g) (sym (noServer i l)) (ordered-nil (z .n) items 1))
-      (lt-or-le i (z .n))
+      ⊎-elim (λ l. ordered-true (z .n) items (s .log i) (all-at (z .n) _ c i l))
+      (λ l. subst (λ g. Ordered 1 (z .n) items g) (sym (noServer i l)) (ordered-nil (z .n) items 1)) (lt-or-le i (z .n))
 
   -- d at two servers.
   pub rules-vector : ruleD z s ≡ true → (i j : ℕ) → i < z .n → j < z .n → s .vector i j ≡ greatestOf j (s .log i)
@@ -65,21 +63,12 @@ module _ (z : Size) (s : State) where
         started = λ i. o i .started;
         gapless = λ i w m k t. o i .gapless w m (suc k) t (omega arith);
         covered = λ i w m. omega (arith, greatest-covers (w .origin) w m refl, rules-vector d i (w .origin) (stored i w m) (o i .origins w m));
-        attained = λ i j.
-            ⊎-elim
-            (λ l.
-            ⊎-elim
+        attained = λ i j. ⊎-elim (λ l. ⊎-elim
             (λ r. subst (λ v. (v ≡ 0) ⊎ Witness (s .log i) j v) (sym (rules-vector d i j l r)) (greatest-attained j (s .log i)))
-            (λ r. inl (outside i j (inr r)))
-            (lt-or-le j (z .n)))
-            (λ l. inl (outside i j (inl l)))
-            (lt-or-le i (z .n));
+            (λ r. inl (outside i j (inr r))) (lt-or-le j (z .n))) (λ l. inl (outside i j (inl l))) (lt-or-le i (z .n));
         home = λ i w m. rules-agreed e i (w .origin) (stored i w m) (o i .origins w m) .homed w m refl;
-        complete = λ i w m b.
-            ⊎-elim
-            (λ l. rules-agreed e i (w .origin) l (stored (w .origin) w m) .complete w m refl b)
-            (λ l. absurd (omega (arith, o (w .origin) .started w m, outside i (w .origin) (inl l))))
-            (lt-or-le i (z .n));
+        complete = λ i w m b. ⊎-elim (λ l. rules-agreed e i (w .origin) l (stored (w .origin) w m) .complete w m refl b)
+            (λ l. absurd (omega (arith, o (w .origin) .started w m, outside i (w .origin) (inl l)))) (lt-or-le i (z .n));
         slots = slots;
         noServer = noServer;
         noSlot = noSlot;
@@ -121,26 +110,14 @@ module _ {z : Size} {s : State} (h : SoundState z s) where
   pub sound-ruleD : ruleD z s ≡ true
   unfolding ruleD
   sound-ruleD =
-      all-make
-      (z .n)
-      _
-      (λ i l.
-      all-make
-      (z .n)
-      _
-      (λ j m.
-      eq-eqb
-      (s .vector i j)
-      (greatestOf j (s .log i))
+      all-make (z .n) _ (λ i l. all-make (z .n) _ (λ j m. eq-eqb (s .vector i j) (greatestOf j (s .log i))
       (greatest-unique j (s .vector i j) (s .log i) (sound-agreed i j .bounded) (h .attained i j))))
 
   -- And e.
   pub sound-ruleE : ruleE z s ≡ true
   unfolding ruleE
   sound-ruleE =
-      all-make
-      (z .n)
-      _
+      all-make (z .n) _
       (λ i l. all-make (z .n) _ (λ j m. true-agrees j (s .vector i j) (h .ascending i) (h .ascending j) (sound-agreed i j)))
 
   -- ---- what follows
@@ -153,12 +130,9 @@ module _ {z : Size} {s : State} (h : SoundState z s) where
   -- Past the last server there is no clock: no vector has a component there, and no server there has a vector.
   pub vector-outside : (i j : ℕ) → (z .n ≤ i) ⊎ (z .n ≤ j) → s .vector i j ≡ 0
   vector-outside i j past =
-      ⊎-elim
-      (λ e. e)
-      (λ (t : Witness (s .log i) j (s .vector i j)).
+      ⊎-elim (λ e. e) (λ (t : Witness (s .log i) j (s .vector i j)).
       let l : i < z .n = stored-below z s (h .noServer) i (t .write) (t .stored) in
-      absurd (⊎-elim (λ p. omega arith) (λ p. omega (arith, t .from, h .origins i (t .write) (t .stored))) past))
-      (h .attained i j)
+      absurd (⊎-elim (λ p. omega arith) (λ p. omega (arith, t .from, h .origins i (t .write) (t .stored))) past)) (h .attained i j)
 
 -- ---- f: one slot
 
@@ -204,17 +178,8 @@ module _ (n : ℕ) (own : ℕ → ℕ) where
   true-slot closed h =
       cond-true (eqb (getD (replicate (2 * n + 2) 0) 0 0) 0) _ _ (eq-eqb _ 0 (getD-replicate (2 * n + 2) 0 0 0 (omega arith))) ∙ replicate-zeros (2 * n + 2)
   true-slot (opened q) h =
-      cond-false (eqb (suc (q .guarantees)) 0) _ _ (ne-eqb (suc (q .guarantees)) 0 (λ e. omega arith)) ∙ and-both
-      _
-      _
-      (le-leb (suc (q .guarantees)) sums (h .chosen))
-      (and-both
-      _
-      _
-      (le-leb (q .lastUsed) n (h .used))
-      (and-both
-      _
-      _
+      cond-false (eqb (suc (q .guarantees)) 0) _ _ (ne-eqb (suc (q .guarantees)) 0 (λ e. omega arith)) ∙ and-both _ _
+      (le-leb (suc (q .guarantees)) sums (h .chosen)) (and-both _ _ (le-leb (q .lastUsed) n (h .used)) (and-both _ _
       (all-make n _ (λ j l. le-leb _ (own j) (omega (arith, slot-readVector n q j l, h .readBelow j))))
       (all-make n _ (λ j l. le-leb _ (own j) (omega (arith, slot-writeVector n q j l, h .writeBelow j))))))
 
@@ -227,11 +192,5 @@ rules-slots z s t f k l = slot-true (z .n) (λ j. s .vector j j) (slotPart z t k
 pub sound-ruleF : {z : Size} {s : State} → SoundState z s → (t : List ℕ) → ((k : ℕ) → k < z .p → slotPart z t k ≡ slotWords (z .n) (s .slot k)) → ruleF z s t ≡ true
 unfolding ruleF
 sound-ruleF {z} {s} h t at =
-    all-make
-    (z .p)
-    _
-    (λ k l.
-    subst
-    (λ (ws : List ℕ). slotSound (z .n) (λ j. s .vector j j) ws ≡ true)
-    (sym (at k l))
+    all-make (z .p) _ (λ k l. subst (λ (ws : List ℕ). slotSound (z .n) (λ j. s .vector j j) ws ≡ true) (sym (at k l))
     (true-slot (z .n) (λ j. s .vector j j) (s .slot k) (h .slots k)))

@@ -92,11 +92,7 @@ pub greatest-attained : (n : ℕ) (v : ℕ → ℕ) → (greatest n v ≡ 0) ⊎
 unfolding greatest
 greatest-attained zero v = inl refl
 greatest-attained (suc n) v =
-    max-cases
-    (greatest n v)
-    (v n)
-    _
-    (λ l e. inr (record { at = n; below = omega arith; equal = sym e }))
+    max-cases (greatest n v) (v n) _ (λ l e. inr (record { at = n; below = omega arith; equal = sym e }))
     (λ l e. ⊎-elim (λ z. inl (e ∙ z)) (λ g. inr (record { at = g .at; below = omega arith; equal = g .equal ∙ sym e })) (greatest-attained n v))
 
 -- The greatest component depends on the first n components only.

@@ -63,9 +63,7 @@ module _ {A : Type 0} (a : A) where
   unfolding blocks
   blocks-replicate zero w f h = ap (λ (k : ℕ). replicate k a) (sym (zero-mul w))
   blocks-replicate (suc n) w f h =
-      rw
-      suc-mul
-      (ap₂ (λ (r last : List A). r ++ last) (blocks-replicate n w f (λ k l. h k (omega arith))) (h n (omega arith))
+      rw suc-mul (ap₂ (λ (r last : List A). r ++ last) (blocks-replicate n w f (λ k l. h k (omega arith))) (h n (omega arith))
       ∙ replicate-append-replicate (n * w) w a)
 
 -- ---- a block among other words, in front and behind

@@ -57,21 +57,15 @@ module _ {A : Type 0} (passes : A → Bool) where
   unfolding keep
   in-keep [] = λ h. h
   in-keep {a} (x ∷ xs) =
-      cond-elim
-      (λ (l : List A). In a l → In a (x ∷ xs))
-      (passes x)
-      (λ e h. ⊎-elim (λ q. here q) (λ m. there (in-keep xs m)) (in-cons h))
+      cond-elim (λ (l : List A). In a l → In a (x ∷ xs)) (passes x) (λ e h. ⊎-elim (λ q. here q) (λ m. there (in-keep xs m)) (in-cons h))
       (λ e h. there (in-keep xs h))
 
   pub keep-passes : {a : A} (xs : List A) → In a (keep passes xs) → passes a ≡ true
   unfolding keep
   keep-passes [] = λ h. in-nil h
   keep-passes {a} (x ∷ xs) =
-      cond-elim
-      (λ (l : List A). In a l → passes a ≡ true)
-      (passes x)
-      (λ e h. ⊎-elim (λ q. ap passes q ∙ e) (λ m. keep-passes xs m) (in-cons h))
-      (λ e h. keep-passes xs h)
+      cond-elim (λ (l : List A). In a l → passes a ≡ true) (passes x)
+      (λ e h. ⊎-elim (λ q. ap passes q ∙ e) (λ m. keep-passes xs m) (in-cons h)) (λ e h. keep-passes xs h)
 
   pub keep-in : {a : A} {xs : List A} → In a xs → passes a ≡ true → In a (keep passes xs)
   unfolding keep
@@ -96,10 +90,7 @@ module _ {A : Type 0} (passes : A → Bool) where
       let z : _≡_ {A = ℕ} 0 1 = cc in
       absurd (omega arith)
   first-found (x ∷ xs) a =
-      cond-elim
-      (λ (o : Option A). o ≡ some a → Found passes (x ∷ xs) a)
-      (passes x)
-      (λ e h.
+      cond-elim (λ (o : Option A). o ≡ some a → Found passes (x ∷ xs) a) (passes x) (λ e h.
       let q : x ≡ a = cc in
       record { front = []; rest = xs; split = ap {B = List A} (λ y. y ∷ xs) q; passed = ap passes (sym q) ∙ e; failed = λ b m. in-nil m })
       (λ e h. more e (first-found xs a h))
@@ -118,14 +109,9 @@ module _ {A : Type 0} (passes : A → Bool) where
   unfolding first
   first-none [] h b m = in-nil m
   first-none (x ∷ xs) h b m =
-      (cond-elim
-      (λ (o : Option A). o ≡ none → passes b ≡ false)
-      (passes x)
-      (λ e q.
+      (cond-elim (λ (o : Option A). o ≡ none → passes b ≡ false) (passes x) (λ e q.
       let z : _≡_ {A = ℕ} 0 1 = cc in
-      absurd (omega arith))
-      (λ e q. ⊎-elim (λ p. ap passes p ∙ e) (λ m′. first-none xs q b m′) (in-cons m)))
-      h
+      absurd (omega arith)) (λ e q. ⊎-elim (λ p. ap passes p ∙ e) (λ m′. first-none xs q b m′) (in-cons m))) h
 
   pub none-first : (xs : List A) → ((b : A) → In b xs → passes b ≡ false) → first passes xs ≡ none
   unfolding first
@@ -166,8 +152,5 @@ below-past n f past k h = cond-false (ltb k n) _ _ (le-ltb k n h)
 -- A function is the same as one below n, and one value from n on.
 pub below-same : {A : Type 0} (n : ℕ) (f g : ℕ → A) (past : A) → ((k : ℕ) → k < n → f k ≡ g k) → ((k : ℕ) → n ≤ k → g k ≡ past) → below n f past ≡ g
 below-same n f g past inside outside =
-    fun-ext (λ k.
-    ⊎-elim
-    (λ (e : ltb k n ≡ true). below-in n f past k (ltb-true k n e) ∙ inside k (ltb-true k n e))
-    (λ (e : ltb k n ≡ false). below-past n f past k (ltb-false k n e) ∙ sym (outside k (ltb-false k n e)))
-    (either (ltb k n)))
+    fun-ext (λ k. ⊎-elim (λ (e : ltb k n ≡ true). below-in n f past k (ltb-true k n e) ∙ inside k (ltb-true k n e))
+    (λ (e : ltb k n ≡ false). below-past n f past k (ltb-false k n e) ∙ sym (outside k (ltb-false k n e))) (either (ltb k n)))

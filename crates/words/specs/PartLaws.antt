@@ -89,7 +89,5 @@ module _ {A : Type 0} where
       → splice a k (xs ++ (ys ++ zs)) new ≡ xs ++ (new ++ zs)
   unfolding splice
   splice-middle xs ys zs a k new e f =
-      ap₂
-      (λ (p r : List A). p ++ (new ++ r))
-      (take-at xs (ys ++ zs) a e)
+      ap₂ (λ (p r : List A). p ++ (new ++ r)) (take-at xs (ys ++ zs) a e)
       (ap (λ (r : List A). drop k r) (drop-at xs (ys ++ zs) a e) ∙ drop-at ys zs k f)

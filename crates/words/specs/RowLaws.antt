@@ -29,10 +29,8 @@ module _ {A : Type 0} where
   unfolding row
   getD-row zero f k d h = absurd (omega arith)
   getD-row (suc n) f k d h =
-      ⊎-elim
-      (λ (l : k < n). List·getD-append (row n f) (f n ∷ []) d k (omega (arith, length-row n f)) ∙ getD-row n f k d l)
-      (λ (e : k ≡ n). getD-at (row n f) (f n) [] d k (length-row n f ∙ sym e) ∙ ap f (sym e))
-      (below-suc h)
+      ⊎-elim (λ (l : k < n). List·getD-append (row n f) (f n ∷ []) d k (omega (arith, length-row n f)) ∙ getD-row n f k d l)
+      (λ (e : k ≡ n). getD-at (row n f) (f n) [] d k (length-row n f ∙ sym e) ∙ ap f (sym e)) (below-suc h)
 
   pub row-cong : (n : ℕ) (f g : ℕ → A) → ((k : ℕ) → k < n → f k ≡ g k) → row n f ≡ row n g
   unfolding row
@@ -42,11 +40,7 @@ module _ {A : Type 0} where
   -- A list is the row of its own elements.
   pub row-getD : (xs : List A) (d : A) (n : ℕ) → length xs ≡ n → row n (λ k. getD xs k d) ≡ xs
   row-getD xs d n e =
-      ext-getD
-      d
-      (row n (λ k. getD xs k d))
-      xs
-      (length-row n (λ k. getD xs k d) ∙ sym e)
+      ext-getD d (row n (λ k. getD xs k d)) xs (length-row n (λ k. getD xs k d) ∙ sym e)
       (λ i h. getD-row n (λ k. getD xs k d) i d (omega (arith, length-row n (λ k. getD xs k d))))
 
 -- ---- a list that is filled from the front
@@ -68,9 +62,7 @@ module _ {A : Type 0} (n : ℕ) (f : ℕ → A) (xs : List A) where
   pub filled-more : n < length xs → set (filled n f xs) n (f n) ≡ filled (n + 1) f xs
   unfolding row
   filled-more h =
-      rw
-      (add-one, append-snoc, drop-cons xs n (f n))
-      (set-at (row n f) (getD xs n (f n)) (drop (suc n) xs) (f n) n (length-row n f))
+      rw (add-one, append-snoc, drop-cons xs n (f n)) (set-at (row n f) (getD xs n (f n)) (drop (suc n) xs) (f n) n (length-row n f))
 
   pub filled-all : length xs ≡ n → filled n f xs ≡ row (length xs) f
   filled-all e = rw (drop-of-length-le xs {i = n} (omega arith), append-nil, e)

@@ -80,10 +80,8 @@ pub all-at : (n : ℕ) (passes : ℕ → Bool) → all n passes ≡ true → (k 
 unfolding all
 all-at zero passes h k l = absurd (omega arith)
 all-at (suc n) passes h k l =
-    ⊎-elim
-    (λ (e : eqb k n ≡ true). subst (λ (m : ℕ). passes m ≡ true) (sym (eqb-true k n e)) (and-right (all n passes) (passes n) h))
-    (λ (e : eqb k n ≡ false). all-at n passes (and-left (all n passes) (passes n) h) k (omega (arith, eqb-false k n e)))
-    (either (eqb k n))
+    ⊎-elim (λ (e : eqb k n ≡ true). subst (λ (m : ℕ). passes m ≡ true) (sym (eqb-true k n e)) (and-right (all n passes) (passes n) h))
+    (λ (e : eqb k n ≡ false). all-at n passes (and-left (all n passes) (passes n) h) k (omega (arith, eqb-false k n e))) (either (eqb k n))
 
 pub all-make : (n : ℕ) (passes : ℕ → Bool) → ((k : ℕ) → k < n → passes k ≡ true) → all n passes ≡ true
 unfolding all

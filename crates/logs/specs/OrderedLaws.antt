@@ -1,11 +1,12 @@
 -- What rule c of Rules.antt, on one log by itself, says by membership, and back. Assumes nothing.
-use Prim.Native.Nat.{ℕ, zero, suc, _<_, _≤_}
+use Prim.Native.Nat.{ℕ, zero, suc, _<_, _≤_, _+_}
 use mathlib.Core.Bool.{true, _||_}
 use mathlib.Core.List.{List, [], _∷_}
 use mathlib.Core.Logic.{_⊎_, inl, inr, ⊎-elim}
 use mathlib.Core.Path.{_≡_, refl, sym, _∙_, ap, subst}
 use native.Mathlib.Omega.{arith}
 use borrow.Author.Tests.{ltb-true, eqb-true, lt-ltb, eq-eqb}
+use lib.ListN.{length}
 use lib.Dec.{ltb, eqb}
 use Rattle.words.specs.Lists.{In, here, there}
 use Rattle.words.specs.ListLaws.{in-nil, in-cons, in-one}
@@ -168,3 +169,18 @@ module _ (n items : ℕ) where
       let e : w .clock ≡ 1 = ordered-first w ws o in
       and-both _ _ (in-range w (o .origins w (here refl)) (o .noted w (here refl)))
       (and-both _ _ (eq-eqb (w .clock) 1 e) (true-goes w ws (subst (λ (c : ℕ). Ordered c n items (w ∷ ws)) (sym e) o)))
+
+  -- A clock grows by 1 at most from one write to the next.
+  counted-on : (w : Write) (ws : List Write) → Ordered (w .clock) n items (w ∷ ws) → (x : Write) → In x ws → x .clock ≤ w .clock + length ws
+  counted-on w [] o x m = in-nil m
+  counted-on w (y ∷ ys) o x m =
+      let step : y .clock ≤ suc (w .clock) = ⊎-elim (λ e. omega arith) (λ e. omega arith) (ordered-step w y ys o) in
+      ⊎-elim (λ e. omega (arith, ap (λ v. v .clock) e)) (λ m′. omega (arith, counted-on y ys (ordered-rest w y ys o) x m′)) (in-cons m)
+
+  -- 01: "By c, a clock is never greater than the count of writes in its log".
+  pub counted : (g : List Write) → Ordered 1 n items g → (x : Write) → In x g → x .clock ≤ length g
+  counted [] o x m = in-nil m
+  counted (w ∷ ws) o x m =
+      let e : w .clock ≡ 1 = ordered-first w ws o in
+      let rest : Ordered (w .clock) n items (w ∷ ws) = subst (λ (c : ℕ). Ordered c n items (w ∷ ws)) (sym e) o in
+      ⊎-elim (λ q. omega (arith, ap (λ v. v .clock) q)) (λ m′. omega (arith, counted-on w ws rest x m′)) (in-cons m)

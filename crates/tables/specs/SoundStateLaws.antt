@@ -19,7 +19,7 @@ use Rattle.logs.specs.WriteLaws.{SameKey}
 use Rattle.logs.specs.AscendingLaws.{key-unique}
 use Rattle.logs.specs.Witness.{Witness, Timed}
 use Rattle.logs.specs.Rules.{greatestOf}
-use Rattle.logs.specs.OrderedLaws.{Ordered, ordered-nil, ordered-true, true-ordered}
+use Rattle.logs.specs.OrderedLaws.{Ordered, ordered-nil, ordered-true, true-ordered, counted}
 use Rattle.logs.specs.RulesLaws.{Agreed, agrees-true, true-agrees, greatest-covers, greatest-attained, greatest-unique}
 use Rattle.tables.specs.Size.{Size, items, sums}
 use Rattle.tables.specs.State.{State, Slot, closed, opened}
@@ -126,6 +126,16 @@ module _ {z : Size} {s : State} (h : SoundState z s) where
   pub key-everywhere : (i j : ℕ) (w x : Write) → In w (s .log i) → In x (s .log j) → SameKey w x → w ≡ x
   key-everywhere i j w x m l k =
       key-unique (h .ascending (w .origin)) w x (h .home i w m) (subst (λ o. In x (s .log o)) (sym (k .1)) (h .home j x l)) k
+
+  -- 01: "so no clock passes L", in a log or in a vector.
+  pub clock-within : (i : ℕ) (w : Write) → In w (s .log i) → w .clock ≤ z .l
+  clock-within i w m = omega (arith, counted (z .n) items (s .log i) (sound-ordered i) w m, h .room i)
+
+  pub vector-within : (i j : ℕ) → s .vector i j ≤ z .l
+  vector-within i j =
+      ⊎-elim (λ e. omega arith)
+      (λ (t : Witness (s .log i) j (s .vector i j)). omega (arith, t .timed, clock-within i (t .write) (t .stored)))
+      (h .attained i j)
 
   -- Past the last server there is no clock: no vector has a component there, and no server there has a vector.
   pub vector-outside : (i j : ℕ) → (z .n ≤ i) ⊎ (z .n ≤ j) → s .vector i j ≡ 0

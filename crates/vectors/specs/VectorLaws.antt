@@ -45,11 +45,6 @@ pub join-right : (v w : ℕ → ℕ) (j : ℕ) → w j ≤ join v w j
 unfolding join
 join-right v w j = omega arith
 
--- The join is the least vector that dominates both.
-pub join-least : (v w : ℕ → ℕ) (j c : ℕ) → v j ≤ c → w j ≤ c → join v w j ≤ c
-unfolding join
-join-least v w j c p q = omega arith
-
 pub join-either : (v w : ℕ → ℕ) (j : ℕ) → (join v w j ≡ v j) ⊎ (join v w j ≡ w j)
 unfolding join
 join-either v w j = max-cases (v j) (w j) _ (λ l e. inr e) (λ l e. inl e)

@@ -1,14 +1,14 @@
 -- What holds of blocks of one width, one behind the other: a list cut into blocks, a block and its elements by their place, and stores
 -- in a block. Assumes nothing.
 use Prim.Native.Nat.{ℕ, zero, suc, _+_, _-_, _*_, _<_, _≤_}
-use mathlib.Core.List.{List, [], _++_, append-nil, append-assoc}
+use mathlib.Core.List.{List, _++_, append-nil, append-assoc}
 use mathlib.Core.Path.{_≡_, refl, sym, _∙_, ap, ap₂}
-use native.Mathlib.Nat.{add-zero, zero-add, add-suc, suc-mul, zero-mul, mul-le-mul-right}
+use native.Mathlib.Nat.{add-zero, add-suc, suc-mul, zero-mul, mul-le-mul-right}
 use native.Mathlib.Omega.{arith}
 use lib.ListN.{length, getD, set, replicate, length-append, length-replicate, getD-replicate, replicate-append-replicate}
 use Rattle.words.specs.Lists.{row, blocks, part, splice, upd}
 use Rattle.words.specs.ListLaws.{upd-same, upd-other}
-use Rattle.words.specs.PartLaws.{getD-part, part-add, part-all, part-middle, set-middle, splice-middle}
+use Rattle.words.specs.PartLaws.{getD-part, part-add, part-middle, set-middle, splice-middle}
 use Rattle.words.specs.RowLaws.{Wide, row-cong, row-getD, length-blocks, blocks-cong}
 
 -- ---- products, which `omega` takes for unknowns
@@ -44,11 +44,6 @@ module _ {A : Type 0} where
   part-blocks xs a zero w = ap (λ (k : ℕ). part xs a k) (zero-mul w)
   part-blocks xs a (suc n) w =
       rw suc-mul (part-add xs a (n * w) w ∙ ap (λ (r : List A). r ++ part xs (a + n * w) w) (part-blocks xs a n w))
-
-  -- A list of n times w elements is n blocks of the width w.
-  pub blocks-part : (xs : List A) (n w : ℕ) → length xs ≡ n * w → blocks n (λ i. part xs (i * w) w) ≡ xs
-  blocks-part xs n w e =
-      blocks-cong n _ _ (λ i h. ap (λ (b : ℕ). part xs b w) (sym (zero-add (i * w)))) ∙ (sym (part-blocks xs 0 n w) ∙ part-all xs (n * w) e)
 
 -- ---- one element everywhere
 
@@ -122,13 +117,3 @@ module _ {A : Type 0} (front rest : List A) (a n w : ℕ) (f : ℕ → List A) (
       ap (λ (r : List A). splice (a + i * w) w r ys) (block-within front rest n f i h)
       ∙ (splice-middle (ahead front f i) (f i) (behind rest n f i) (a + i * w) w ys length-ahead (wide i h)
       ∙ sym (block-replaced front rest n f i ys h))
-
--- The same with nothing in front.
-module _ {A : Type 0} (n w : ℕ) (f : ℕ → List A) (wide : Wide n w f) (i : ℕ) (h : i < n) where
-  -- Block i as a part.
-  pub part-of-blocks : (rest : List A) → part (blocks n f ++ rest) (i * w) w ≡ f i
-  part-of-blocks rest = simp zero-add at (part-block [] rest 0 n w f refl wide i h)
-
-  -- Element j of block i.
-  pub getD-blocks : (j : ℕ) (d : A) → j < w → getD (blocks n f) (i * w + j) d ≡ getD (f i) j d
-  getD-blocks j d l = simp (zero-add, append-nil) at (getD-block [] [] 0 n w f refl wide i h j d l)

@@ -45,14 +45,6 @@ in-take (suc k) (x ∷ xs) h = ⊎-elim (λ e. here e) (λ m. there (in-take k x
 -- ---- keep
 
 module _ {A : Type 0} (passes : A → Bool) where
-  pub keep-yes : (x : A) (xs : List A) → passes x ≡ true → keep passes (x ∷ xs) ≡ x ∷ keep passes xs
-  unfolding keep
-  keep-yes x xs e = cond-true (passes x) _ _ e
-
-  pub keep-no : (x : A) (xs : List A) → passes x ≡ false → keep passes (x ∷ xs) ≡ keep passes xs
-  unfolding keep
-  keep-no x xs e = cond-false (passes x) _ _ e
-
   pub in-keep : {a : A} (xs : List A) → In a (keep passes xs) → In a xs
   unfolding keep
   in-keep [] = λ h. h

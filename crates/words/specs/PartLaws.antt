@@ -7,7 +7,7 @@ use native.Mathlib.Nat.{add-zero, zero-add, suc-add}
 use native.Mathlib.Omega.{arith}
 use lib.ListN.{length, getD, set, take, drop, length-drop}
 use lib.Seq.{length-take-le, getD-take, getD-drop, drop-drop, take-add, take-all, take-at, drop-at}
-use lib.Seq.{take-append-le, drop-append-le, drop-append-add, getD-append-add, set-append-left}
+use lib.Seq.{getD-append-add, set-append-left}
 use Rattle.words.specs.Lists.{row, part, splice, below}
 use Rattle.words.specs.ListLaws.{below-in}
 use Rattle.words.specs.RowLaws.{row-cong, row-getD}
@@ -49,19 +49,6 @@ module _ {A : Type 0} where
   part-add xs a k m = take-add k m (drop a xs) ∙ ap (λ (r : List A). take k (drop a xs) ++ take m r) (drop-drop k a xs)
 
   -- ---- in the first of two lists, in the second, in the middle of three
-
-  -- A part of the first list.
-  pub part-left : (xs ys : List A) (a k : ℕ) → a + k ≤ length xs → part (xs ++ ys) a k ≡ part xs a k
-  unfolding part
-  part-left xs ys a k h =
-      ap (λ (r : List A). take k r) (drop-append-le a xs ys (omega arith))
-      ∙ take-append-le k (drop a xs) ys (omega (arith, length-drop a xs))
-
-  -- A part of the second list.
-  pub part-right : (xs ys : List A) (n a k : ℕ) → length xs ≡ n → part (xs ++ ys) (n + a) k ≡ part ys a k
-  unfolding part
-  part-right xs ys n a k e =
-      ap (λ (r : List A). take k r) (ap (λ (m : ℕ). drop (m + a) (xs ++ ys)) (sym e) ∙ drop-append-add xs ys a)
 
   -- The middle list as a part.
   pub part-middle : (xs ys zs : List A) (a k : ℕ) → length xs ≡ a → length ys ≡ k → part (xs ++ (ys ++ zs)) a k ≡ ys

@@ -1,18 +1,17 @@
 -- What holds of sets of writes kept as lists in any order: membership, inclusion, what is missing, and the latest clock; and of the
 -- write order, where one write is not before another. Assumes nothing.
 use Prim.Native.Nat.{_≤_}
-use mathlib.Core.Bool.{true, false, not, _&&_, _||_}
+use mathlib.Core.Bool.{true, not}
 use mathlib.Core.List.{List, [], _∷_}
 use mathlib.Core.Logic.{_⊎_, inl, inr, ⊎-elim}
-use mathlib.Core.Path.{_≡_, refl, sym, _∙_, ap, ap₂}
+use mathlib.Core.Path.{_≡_, refl, sym, _∙_, ap}
 use native.Mathlib.Omega.{arith, max-cases}
-use lib.Dec.{eqb, ltb}
 use Rattle.words.specs.Lists.{In, here, there}
 use Rattle.words.specs.ListLaws.{in-nil, in-keep, keep-passes, keep-in}
 use Rattle.words.specs.CaseLaws.{each}
 use Rattle.words.specs.TestLaws.{true-not-false, not-true-false, and-left, and-right, and-both, or-cases, or-left, or-right}
-use Rattle.logs.specs.Write.{Write, before, same}
-use Rattle.logs.specs.WriteLaws.{SameKey, before-trans, before-irrefl, before-asym, before-total, same-true, eq-same}
+use Rattle.logs.specs.Write.{Write, same}
+use Rattle.logs.specs.WriteLaws.{same-true, eq-same}
 use Rattle.logs.specs.Witness.{Timed}
 use Rattle.book.specs.Book.{member, includes, latestClock, missing}
 
@@ -65,22 +64,6 @@ unfolding missing
 missing-in {w} other h k = keep-in (λ x. not (member x other)) h (ap not (not-true-false (member w other) (λ e. k (member-in w other e))))
 
 -- ---- not before
-
--- Not before one that is not before a third: not before the third.
-pub not-before-trans : (w x y : Write) → before w x ≡ false → before x y ≡ false → before w y ≡ false
-unfolding before
-not-before-trans w x y p q =
-    not-true-false (before w y) (λ e. true-not-false (⊎-elim (λ b. before-trans x w y b e) (λ k. keyed k e) (before-total w x p)) q)
-  where
-    keyed : SameKey w x → before w y ≡ true → before x y ≡ true
-    keyed k e = sym (ap₂ (λ c o. ltb c (y .clock) || eqb c (y .clock) && ltb o (y .origin)) (k .0) (k .1)) ∙ e
-
--- No write is before itself, and none before one that it comes after.
-pub not-before-self : (w : Write) → before w w ≡ false
-not-before-self w = not-true-false (before w w) (λ e. before-irrefl w e)
-
-pub not-before-back : (w x : Write) → before w x ≡ true → before x w ≡ false
-not-before-back w x h = not-true-false (before x w) (λ e. before-asym w x h e)
 
 -- ---- the latest clock
 

@@ -10,10 +10,10 @@ use Rattle.words.specs.ListLaws.{in-nil, in-cons, in-keep, keep-passes, keep-in
 use Rattle.words.specs.TestLaws.{true-not-false, not-true-false, cond-elim}
 use Rattle.words.specs.CaseLaws.{each}
 use Rattle.logs.specs.Write.{Write, before, same}
-use Rattle.logs.specs.WriteLaws.{before-irrefl, same-true, eq-same}
+use Rattle.logs.specs.WriteLaws.{before-irrefl, same-true, eq-same, not-before-trans, not-before-self, not-before-back}
 use Rattle.logs.specs.Ascending.{Ascending, ascending-nil, ascending-cons}
 use Rattle.book.specs.Book.{least, leastFirst}
-use Rattle.book.specs.BookLaws.{SameMembers, not-before-trans, not-before-self, not-before-back}
+use Rattle.book.specs.BookLaws.{SameMembers}
 
 -- The least is a write of the list.
 pub least-in : (w : Write) (ws : List Write) → In (least w ws) (w ∷ ws)

@@ -4,7 +4,7 @@ pub mod NewestLaws
 pub mod LeastLaws
 pub mod Matching
 pub mod MatchingLaws
-pub mod MatchingLawsKept
+pub mod MatchingKept
 pub mod Simulation
 pub mod Schedule
 pub mod Session

@@ -5,10 +5,10 @@ use mathlib.Core.Bool.{Bool, true, _&&_}
 use mathlib.Core.List.{List}
 use mathlib.Core.Logic.{⊎-elim}
 use mathlib.Core.Path.{_≡_, sym, _∙_, ap, ap₂, fun-ext}
-use native.Mathlib.Omega.{arith, max-cases}
+use native.Mathlib.Omega.{arith}
 use lib.Dec.{ltb}
 use lib.ListN.{length, take}
-use lib.Seq.{take-all}
+use Rattle.words.specs.ListLaws.{take-least}
 use Rattle.words.specs.Lists.{In}
 use Rattle.words.specs.Tests.{implies}
 use Rattle.words.specs.TestLaws.{same-test}
@@ -29,13 +29,6 @@ use Rattle.book.specs.Book.{BookSession, Book, held, includes, mayRead, 
 use Rattle.book.specs.BookLaws.{SameMembers, includes-at, includes-make, in-missing, missing-not, missing-in, latestClock-above, latestClock-attained}
 use Rattle.book.specs.LeastLaws.{leastFirst-take}
 use Rattle.book.specs.Matching.{Covers, MatchingSession, Matching}
-
--- Of the least of a list's length and two numbers the length does not count.
-pub take-least : {A : Type 0} (xs : List A) (k l : ℕ) → take (min (min (length xs) k) l) xs ≡ take (min k l) xs
-take-least xs k l =
-    max-cases (length xs) (min k l) _ (λ h e. take-all (min (min (length xs) k) l) xs (omega arith) ∙ sym (take-all (min k l) xs h)) (λ h e.
-    let q : min (min (length xs) k) l ≡ min k l = omega arith in
-    ap (λ j. take j xs) q)
 
 -- Checks that agree at each server find the same server.
 pub choose-alike : {s : State} {q : Session} {r : BookSession} → MatchingSession s q r → (n reach : ℕ) {passes passes′ : ℕ → Bool} → ((i : ℕ) → passes i ≡ passes′ i)

@@ -16,7 +16,7 @@ use Rattle.steps.specs.CallLaws.{step-answer, means-next}
 use Rattle.steps.specs.RunLaws.{run-fits}
 use Rattle.book.specs.Book.{Book, blank, bookStep, bookAnswers}
 use Rattle.book.specs.Matching.{Matching}
-use Rattle.book.specs.MatchingLawsKept.{fresh-matching}
+use Rattle.book.specs.MatchingKept.{fresh-matching}
 use Rattle.book.specs.Simulation.{book-step}
 
 -- From a table that means a state, and a book that matches the state, all answers are alike.

@@ -6,6 +6,7 @@ use mathlib.Core.Option.{Option, none, some}
 use mathlib.Core.Path.{_≡_, refl, sym, _∙_, ap, subst}
 use native.Mathlib.Omega.{arith}
 use lib.Dec.{eqb}
+use Rattle.words.specs.TestLaws.{cond-both}
 use Rattle.words.specs.Lists.{In, here, upd}
 use Rattle.words.specs.ListLaws.{in-one, in-append-right, in-append-cases, upd-same}
 use Rattle.logs.specs.Write.{Write}
@@ -20,7 +21,7 @@ use Rattle.book.specs.BookLaws.{latestClock-above}
 use Rattle.book.specs.NewestLaws.{newestOn-lastOn}
 use Rattle.book.specs.Matching.{MatchingSession, MatchingSlot, Matching}
 use Rattle.book.specs.MatchingLaws.{read-checked, write-checked, roomy-checked, choose-alike, newWrite-alike, sent-alike, goingOver-length}
-use Rattle.book.specs.MatchingLawsKept.{cond-both, covers-none, covers-server, covers-join, covers-write, Kept, covers-kept, slot-matching, takesIn-end, takesIn-order, arrived-kept, arrived-matching}
+use Rattle.book.specs.MatchingKept.{covers-none, covers-server, covers-join, covers-write, Kept, covers-kept, slot-matching, takesIn-end, takesIn-order, arrived-kept, arrived-matching}
 
 -- Two outcomes have the same answer, and what they leave matches.
 abbrev pub Alike : Outcome → BookOutcome → Type 0

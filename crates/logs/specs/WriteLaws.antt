@@ -1,12 +1,12 @@
 -- What holds of the write order and of sameness. Assumes nothing.
 use Prim.Native.Nat.{_<_, _≤_}
-use mathlib.Core.Bool.{true, false, _&&_}
+use mathlib.Core.Bool.{true, false, _&&_, _||_}
 use mathlib.Core.Logic.{_⊎_, inl, inr, ⊎-elim}
-use mathlib.Core.Path.{_≡_, refl, sym, _∙_, subst}
+use mathlib.Core.Path.{_≡_, refl, sym, _∙_, subst, ap₂}
 use native.Mathlib.Omega.{arith}
 use borrow.Author.Tests.{ltb-true, eqb-true, lt-ltb, eq-eqb, ltb-false, eqb-false}
 use lib.Dec.{ltb, eqb}
-use Rattle.words.specs.TestLaws.{and-left, and-right, and-both, or-cases, or-left, or-right, true-not-false, either}
+use Rattle.words.specs.TestLaws.{and-left, and-right, and-both, or-cases, or-left, or-right, true-not-false, either, not-true-false}
 use Rattle.logs.specs.Write.{Write, before, same}
 
 -- Two writes have one identifier.
@@ -67,6 +67,24 @@ before-total w x h =
     inl (before-origin x w (sym c) (omega (arith, ltb-false (w .origin) (x .origin) o, eqb-false (w .origin) (x .origin) p))))
     (either (eqb (w .origin) (x .origin)))) (either (ltb (w .origin) (x .origin)))) (either (ltb (w .clock) (x .clock))))
     (either (ltb (x .clock) (w .clock)))
+
+-- ---- not before
+
+-- Not before one that is not before a third: not before the third.
+pub not-before-trans : (w x y : Write) → before w x ≡ false → before x y ≡ false → before w y ≡ false
+unfolding before
+not-before-trans w x y p q =
+    not-true-false (before w y) (λ e. true-not-false (⊎-elim (λ b. before-trans x w y b e) (λ k. keyed k e) (before-total w x p)) q)
+  where
+    keyed : SameKey w x → before w y ≡ true → before x y ≡ true
+    keyed k e = sym (ap₂ (λ c o. ltb c (y .clock) || eqb c (y .clock) && ltb o (y .origin)) (k .0) (k .1)) ∙ e
+
+-- No write is before itself, and none before one that it comes after.
+pub not-before-self : (w : Write) → before w w ≡ false
+not-before-self w = not-true-false (before w w) (λ e. before-irrefl w e)
+
+pub not-before-back : (w x : Write) → before w x ≡ true → before x w ≡ false
+not-before-back w x h = not-true-false (before x w) (λ e. before-asym w x h e)
 
 -- ---- sameness
 

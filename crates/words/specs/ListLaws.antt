@@ -1,14 +1,15 @@
 -- What holds of membership, of what passes a test, and of functions changed at one number. Assumes nothing.
-use Prim.Native.Nat.{ℕ, zero, suc, _<_, _≤_}
+use Prim.Native.Nat.{ℕ, zero, suc, _<_, _≤_, min}
 use mathlib.Core.Bool.{Bool, true, false, cond}
 use mathlib.Core.List.{List, [], _∷_, _++_}
 use mathlib.Core.Logic.{_⊎_, inl, inr, ⊎-elim}
 use mathlib.Core.Option.{Option, none, some}
 use mathlib.Core.Path.{_≡_, refl, sym, _∙_, ap, subst, fun-ext}
-use native.Mathlib.Omega.{arith}
+use native.Mathlib.Omega.{arith, max-cases}
 use borrow.Author.Tests.{eqb-true, eq-eqb, ne-eqb, lt-ltb, le-ltb, ltb-true, ltb-false, eqb-false}
+use lib.Seq.{take-all}
 use lib.Dec.{eqb, ltb}
-use lib.ListN.{take}
+use lib.ListN.{take, length}
 use Rattle.words.specs.Lists.{In, here, there, keep, first, upd, below}
 use Rattle.words.specs.TestLaws.{either, cond-elim, cond-true, cond-false}
 
@@ -41,6 +42,13 @@ pub in-take : {A : Type 0} {a : A} (k : ℕ) (xs : List A) → In a (take k xs) 
 in-take zero xs h = in-nil h
 in-take (suc k) [] h = h
 in-take (suc k) (x ∷ xs) h = ⊎-elim (λ e. here e) (λ m. there (in-take k xs m)) (in-cons h)
+
+-- Of the least of a list's length and two numbers the length does not count.
+pub take-least : {A : Type 0} (xs : List A) (k l : ℕ) → take (min (min (length xs) k) l) xs ≡ take (min k l) xs
+take-least xs k l =
+    max-cases (length xs) (min k l) _ (λ h e. take-all (min (min (length xs) k) l) xs (omega arith) ∙ sym (take-all (min k l) xs h)) (λ h e.
+    let q : min (min (length xs) k) l ≡ min k l = omega arith in
+    ap (λ j. take j xs) q)
 
 -- ---- keep
 

@@ -43,6 +43,11 @@ pub cond-false : {A : Type 0} (t : Bool) (x y : A) → t ≡ false → cond t x 
 cond-false true x y e = true-not-false refl e
 cond-false false x y e = refl
 
+-- Two choices by one test are related if the chosen are.
+pub cond-both : {A B : Type 0} (P : A → B → Type 0) (t : Bool) {x y : A} {x′ y′ : B} → P x x′ → P y y′ → P (cond t x y) (cond t x′ y′)
+cond-both P true h k = h
+cond-both P false h k = k
+
 -- ---- and, or, implies
 
 pub and-left : (a b : Bool) → (a && b) ≡ true → a ≡ true

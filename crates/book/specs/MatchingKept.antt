@@ -1,13 +1,13 @@
 -- What keeps a book matching a state: a slot set in both, writes that arrive in both, and vectors that go on standing for sets.
 -- Assumes nothing.
 use Prim.Native.Nat.{ℕ, _+_, _≤_}
-use mathlib.Core.Bool.{Bool, true, false, cond}
 use mathlib.Core.List.{List, [], _∷_, _++_}
 use mathlib.Core.Logic.{_⊎_, inl, inr, ⊎-elim}
 use mathlib.Core.Path.{_≡_, refl, sym, ap, subst}
 use native.Mathlib.Omega.{arith}
 use lib.Dec.{eqb}
 use lib.ListN.{length, length-append}
+use Rattle.words.specs.TestLaws.{cond-both}
 use Rattle.words.specs.Lists.{In, here, there, upd}
 use Rattle.words.specs.ListLaws.{in-nil, in-cons, in-append-left, in-append-right, in-append-cases, upd-elim}
 use Rattle.words.specs.CaseLaws.{each}
@@ -22,11 +22,6 @@ use Rattle.tables.specs.SoundState.{SoundState}
 use Rattle.book.specs.Book.{BookSession, BookSlot, shut, live, Book, blank, held, withBookSlot, withArrived}
 use Rattle.book.specs.BookLaws.{SameMembers}
 use Rattle.book.specs.Matching.{Reached, Covers, MatchingSession, MatchingSlot, Matching}
-
--- Two choices by one test are related if the chosen are.
-pub cond-both : {A B : Type 0} (P : A → B → Type 0) (t : Bool) {x y : A} {x′ y′ : B} → P x x′ → P y y′ → P (cond t x y) (cond t x′ y′)
-cond-both P true h k = h
-cond-both P false h k = k
 
 -- ---- vectors that stand for sets
 

@@ -42,11 +42,13 @@ module _ (z : Size) (x : Step) where
   pub asked-inRange : InRange z (asked z x)
   unfolding openInRange closeInRange readInRange writeInRange exchangeInRange
   asked-inRange =
-      by-kind (InRange z) (λ k g. (ltb-true _ _ (search (and-left, and-right)), ltb-true _ _ (search (and-left, and-right))))
-      (λ k g. ltb-true _ _ (search (and-left, and-right)))
-      (λ k g. (ltb-true _ _ (search (and-left, and-right)), ltb-true _ _ (search (and-left, and-right)), search (and-left, and-right)))
-      (λ k g. (ltb-true _ _ (search (and-left, and-right)), ltb-true _ _ (search (and-left, and-right)), search (and-left, and-right)))
-      (λ k g. (ltb-true _ _ (search (and-left, and-right)), ltb-true _ _ (search (and-left, and-right)))) tt
+      by-kind (InRange z)
+      (λ k g. (ltb-true _ _ (search and-left), ltb-true _ _ (search (and-left, and-right))))
+      (λ k g. ltb-true _ _ (search and-left))
+      (λ k g. (ltb-true _ _ (search and-left), ltb-true _ _ (search (and-left, and-right)), search (and-left, and-right)))
+      (λ k g. (ltb-true _ _ (search and-left), ltb-true _ _ (search (and-left, and-right)), search (and-left, and-right)))
+      (λ k g. (ltb-true _ _ (search and-left), ltb-true _ _ (search (and-left, and-right))))
+      tt
 
   -- ---- what is asked, by the kind word
 

@@ -1,7 +1,7 @@
 -- The plain book: what the buyer believes in. It keeps whole sets of writes and no vectors. A server keeps its writes in the order in
--- which they arrived and never sorts them; a session keeps the set of writes that it has read and the set that it has made (002,
--- section 4: read-set and write-set); every check is inclusion, by looking for each write. With the rules it shares the reading of a
--- step's words, the search order, the guarantee bits and the write order, and nothing else. Assumes nothing.
+-- which they arrived and never sorts them; a session keeps the set of writes that its reads depend on and the set that it has made (002,
+-- section 4: read-set and write-set); every check is inclusion, by looking for each write. With the rules it shares 01's conventions: how a
+-- step's words are read, the guarantee bits, the order in which reachable servers are tried, and the write order. Assumes nothing.
 use Prim.Native.Nat.{ℕ, zero, suc, _-_, max, min}
 use mathlib.Core.Bool.{Bool, true, false, cond, not, _&&_, _||_}
 use mathlib.Core.List.{List, [], _∷_, _++_}
@@ -12,12 +12,13 @@ use Rattle.words.specs.Lists.{keep, upd}
 use Rattle.words.specs.Tests.{implies}
 use Rattle.logs.specs.Write.{Write, before, same}
 use Rattle.tables.specs.Size.{Size}
-use Rattle.steps.specs.Step.{Step, Op, bad, opens, closes, reads, writes, exchanges, asked, Answer, refused, done}
+use Rattle.steps.specs.Step.{Step, Op, bad, opens, closes, reads, writes, exchanges, asked, Answer}
 use Rattle.steps.specs.Choice.{readYourWrites, monotonicReads, writesFollowReads, monotonicWrites, choose}
 
+-- The guarantees chosen, the server where the next search starts (the last-used one, or 0), and 002's two sets.
 pub record BookSession : Type 0 where
   pub guarantees : ℕ
-  pub lastUsed : ℕ
+  pub start : ℕ
   pub readSet : List Write
   pub writeSet : List Write
 
@@ -33,7 +34,7 @@ pub record Book : Type 0 where
 unfoldable pub blank : Book
 blank = record { arrived = λ i. []; slot = λ k. shut }
 
--- What a server holds.
+-- What a server holds. (Of a table's words the same is `database` in Terms.antt.)
 unfoldable pub held : Book → ℕ → List Write
 held b i = b .arrived i
 
@@ -52,16 +53,18 @@ unfoldable pub includes : List Write → List Write → Bool
 includes list [] = true
 includes list (w ∷ ws) = member w list && includes list ws
 
+-- The check of one server: the read set where the first guarantee is chosen, the write set where the second is.
+unfoldable pub included : (ℕ → Bool) → (ℕ → Bool) → BookSession → List Write → Bool
+included forReads forWrites q list =
+    implies (forReads (q .guarantees)) (includes list (q .readSet)) && implies (forWrites (q .guarantees)) (includes list (q .writeSet))
+
 -- 002, section 4: before a read "the session manager must check that the write-set is a subset of DB(S,t)" (RYW) and "that the read-set
 -- is a subset" (MR); before a write, the read-set (WFR) and the write-set (MW).
 unfoldable pub mayRead : BookSession → List Write → Bool
-mayRead q list =
-    implies (monotonicReads (q .guarantees)) (includes list (q .readSet)) && implies (readYourWrites (q .guarantees)) (includes list (q .writeSet))
+mayRead q list = included monotonicReads readYourWrites q list
 
 unfoldable pub mayWrite : BookSession → List Write → Bool
-mayWrite q list =
-    implies (writesFollowReads (q .guarantees)) (includes list (q .readSet))
-    && implies (monotonicWrites (q .guarantees)) (includes list (q .writeSet))
+mayWrite q list = included writesFollowReads monotonicWrites q list
 
 -- The later of a write and another that may be there.
 unfoldable pub later : Write → Option Write → Write
@@ -99,94 +102,97 @@ pub record BookOutcome : Type 0 where
   pub answer : Answer
   pub book : Book
 
+-- A code and four zeros.
+unfoldable pub bare : ℕ → Answer
+bare code = record { code = code; server = 0; origin = 0; clock = 0; value = 0 }
+
+-- A refusal leaves the book as it is.
 unfoldable pub bookRefuse : ℕ → Book → BookOutcome
-bookRefuse code b = record { answer = refused code; book = b }
+bookRefuse code b = record { answer = bare code; book = b }
 
 unfoldable pub withBookSlot : Book → ℕ → BookSlot → Book
 withBookSlot b k o = record { arrived = b .arrived; slot = upd (b .slot) k o }
 
+-- Writes arrive at a server, behind those that arrived before.
+unfoldable pub withArrived : Book → ℕ → List Write → Book
+withArrived b i ws = record { arrived = upd (b .arrived) i (b .arrived i ++ ws); slot = b .slot }
+
+-- 01, "Open, close": a new session has read and made nothing.
+unfoldable pub bookNewSession : ℕ → BookSession
+bookNewSession g = record { guarantees = g; start = 0; readSet = []; writeSet = [] }
+
 unfoldable pub bookOpening : Book → ℕ → ℕ → BookSlot → BookOutcome
-bookOpening b k g shut =
-    record { answer = done; book = withBookSlot b k (live (record { guarantees = g; lastUsed = 0; readSet = []; writeSet = [] })) }
+bookOpening b k g shut = record { answer = bare 0; book = withBookSlot b k (live (bookNewSession g)) }
 bookOpening b k g (live q) = bookRefuse 3 b
 
 unfoldable pub bookClosing : Book → ℕ → BookSlot → BookOutcome
 bookClosing b k shut = bookRefuse 3 b
-bookClosing b k (live q) = record { answer = done; book = withBookSlot b k shut }
+bookClosing b k (live q) = record { answer = bare 0; book = withBookSlot b k shut }
 
+-- 01, "Read": the newest write on the item, or zeros; and "after each Read R to server S, the WIDs for each Write in
+-- RelevantWrites(S,t,R) should be added to the session's read-set" (002, section 4).
 unfoldable pub bookAnswer : ℕ → Option Write → Answer
 bookAnswer i none = record { code = 0; server = i; origin = 0; clock = 0; value = 0 }
 bookAnswer i (some w) = record { code = 0; server = i; origin = w .origin; clock = w .clock; value = w .value }
 
+unfoldable pub bookAfterRead : BookSession → ℕ → List Write → BookSession
+bookAfterRead q i seen = record { guarantees = q .guarantees; start = i; readSet = seen ++ q .readSet; writeSet = q .writeSet }
+
 unfoldable pub bookReadFrom : Book → ℕ → ℕ → BookSession → Option ℕ → BookOutcome
 bookReadFrom b k item q none = bookRefuse 6 b
 bookReadFrom b k item q (some i) =
-    record {
-      answer = bookAnswer i (newestOn item (held b i));
-      book =
-          withBookSlot
-          b
-          k
-          (live (record { guarantees = q .guarantees; lastUsed = suc i; readSet = relevant item (held b i) ++ q .readSet; writeSet = q .writeSet }));
-    }
+    let next = bookAfterRead q i (relevant item (held b i)) in
+    record { answer = bookAnswer i (newestOn item (held b i)); book = withBookSlot b k (live next) }
 
 unfoldable pub bookReading : Size → Book → ℕ → ℕ → ℕ → BookSlot → BookOutcome
 bookReading z b k item reach shut = bookRefuse 3 b
 bookReading z b k item reach (live q) =
-    cond (eqb reach 0) (bookRefuse 5 b) (bookReadFrom b k item q (choose (z .n) (q .lastUsed - 1) reach (λ i. mayRead q (held b i))))
+    let current = choose (z .n) (q .start) reach (λ i. mayRead q (held b i)) in
+    cond (eqb reach 0) (bookRefuse 5 b) (bookReadFrom b k item q current)
 
 -- 002, section 4, C1: "new Writes are ordered after Writes that are already known to a server".
 unfoldable pub bookNewWrite : Book → ℕ → ℕ → ℕ → Write
 bookNewWrite b i item value = record { origin = i; clock = suc (latestClock (held b i)); item = item; value = value }
 
-unfoldable pub withArrived : Book → ℕ → List Write → Book
-withArrived b i ws = record { arrived = upd (b .arrived) i (b .arrived i ++ ws); slot = b .slot }
+-- "Whenever a Write is accepted by a server, its assigned WID is added to the session's write-set" (002, section 4).
+unfoldable pub bookAfterWrite : BookSession → ℕ → Write → BookSession
+bookAfterWrite q i w = record { guarantees = q .guarantees; start = i; readSet = q .readSet; writeSet = w ∷ q .writeSet }
 
 unfoldable pub bookAccepted : Book → ℕ → BookSession → ℕ → Write → BookOutcome
 bookAccepted b k q i w =
-    record {
-      answer = record { code = 0; server = i; origin = i; clock = w .clock; value = w .value };
-      book =
-          withBookSlot
-          (withArrived b i (w ∷ []))
-          k
-          (live (record { guarantees = q .guarantees; lastUsed = suc i; readSet = q .readSet; writeSet = w ∷ q .writeSet }));
-    }
+    let answer : Answer = record { code = 0; server = i; origin = i; clock = w .clock; value = w .value } in
+    record { answer = answer; book = withBookSlot (withArrived b i (w ∷ [])) k (live (bookAfterWrite q i w)) }
 
+-- Nobody up to date is 6; nobody such with a free place is 7.
 unfoldable pub bookWriteTo : Book → ℕ → ℕ → ℕ → BookSession → Option ℕ → Option ℕ → BookOutcome
 bookWriteTo b k item value q none roomy = bookRefuse 6 b
 bookWriteTo b k item value q (some i) none = bookRefuse 7 b
 bookWriteTo b k item value q (some i) (some j) = bookAccepted b k q j (bookNewWrite b j item value)
 
+-- The free places at a server.
+unfoldable pub freePlaces : Size → Book → ℕ → ℕ
+freePlaces z b i = z .l - length (b .arrived i)
+
+unfoldable pub hasPlace : Size → Book → ℕ → Bool
+hasPlace z b i = ltb 0 (freePlaces z b i)
+
 unfoldable pub bookWriting : Size → Book → ℕ → ℕ → ℕ → ℕ → BookSlot → BookOutcome
 bookWriting z b k item value reach shut = bookRefuse 3 b
 bookWriting z b k item value reach (live q) =
-    cond
-    (eqb reach 0)
-    (bookRefuse 5 b)
-    (bookWriteTo
-    b
-    k
-    item
-    value
-    q
-    (choose (z .n) (q .lastUsed - 1) reach (λ i. mayWrite q (held b i)))
-    (choose (z .n) (q .lastUsed - 1) reach (λ i. mayWrite q (held b i) && ltb (length (held b i)) (z .l))))
+    let current = choose (z .n) (q .start) reach (λ i. mayWrite q (held b i)) in
+    let roomy = choose (z .n) (q .start) reach (λ i. mayWrite q (held b i) && hasPlace z b i) in
+    cond (eqb reach 0) (bookRefuse 5 b) (bookWriteTo b k item value q current roomy)
 
--- What goes over: what is missing, the least in write order first, as many as "most" and the free places allow.
+-- What goes over: what is missing, the least in write order first, as many as "most" and the free places allow (C2).
 unfoldable pub bookSent : Size → Book → ℕ → ℕ → ℕ → List Write
-bookSent z b source target most =
-    leastFirst (min most (z .l - length (held b target))) (missing (held b source) (held b target))
+bookSent z b source target most = leastFirst (min most (freePlaces z b target)) (missing (held b source) (held b target))
 
+-- Answers how many went over.
 unfoldable pub bookExchanging : Size → Book → ℕ → ℕ → ℕ → BookOutcome
 bookExchanging z b source target most =
-    cond
-    (eqb source target)
-    (bookRefuse 4 b)
-    (record {
-      answer = record { code = 0; server = target; origin = source; clock = 0; value = length (bookSent z b source target most) };
-      book = withArrived b target (bookSent z b source target most);
-    })
+    let gone = bookSent z b source target most in
+    let answer : Answer = record { code = 0; server = target; origin = source; clock = 0; value = length gone } in
+    cond (eqb source target) (bookRefuse 4 b) (record { answer = answer; book = withArrived b target gone })
 
 unfoldable pub bookStep : Size → Book → Op → BookOutcome
 bookStep z b bad = bookRefuse 2 b

@@ -15,7 +15,7 @@ use Rattle.steps.specs.Choice.{readYourWrites, monotonicReads, writesFollowRead
 use Rattle.book.specs.Guarantee.{Stores, DependsOn, after, Reads, Writes, Lasts, Chose}
 use Rattle.book.specs.Propagation.{Precedes}
 use Rattle.book.specs.Moments.{stateAfter, after-append, stored, stores, means-after, kept-after, precedes-after}
-use Rattle.book.specs.Remembering.{checked-mr, checked-ryw, checked-wfr, checked-mw, read-remembers, write-remembers, read-after, write-after, read-served, write-served}
+use Rattle.book.specs.Remembering.{checked-reads, checked-writes, read-remembers, write-remembers, read-after, write-after, read-served, write-served}
 
 -- Any schedule from a fresh table, with two of its steps marked: `pre`, the step x, `mid`, the step y, and `post`.
 module _ (z : Size) (limits : within z ≡ true) (pre : List Step) (x : Step) (mid : List Step) (y : Step) (post : List Step) where
@@ -77,7 +77,7 @@ module _ (z : Size) (limits : within z ≡ true) (pre : List Step) (x : Step) (m
   pub read-your-writes : (k j : ℕ) (w : Write) → Writes t₁ x k w → Lasts k t₂ mid → Reads t₃ y k j → Chose t₃ k readYourWrites → Stores t₃ j w
   unfolding stateAfter
   read-your-writes k j w wrote lasts read chose =
-      read-served m₃ y k w readYourWrites (λ q. q .writeVector) (checked-ryw (z .n)) j read chose
+      read-served m₃ y k w readYourWrites (λ q. q .writeVector) (checked-writes monotonicReads readYourWrites (z .n)) j read chose
       (write-after m₂ k mid lasts w (write-remembers m₁ x k w wrote))
 
   -- Monotonic Reads. 002, 3.2: "If Read R1 occurs before R2 in a session and R1 accesses server S1 at time t1 and R2 accesses server S2 at
@@ -86,7 +86,7 @@ module _ (z : Size) (limits : within z ≡ true) (pre : List Step) (x : Step) (m
       → (w : Write) → DependsOn t₁ x i w → Stores t₃ j w
   unfolding stateAfter
   monotonic-reads k i j first lasts second chose w depends =
-      read-served m₃ y k w monotonicReads (λ q. q .readVector) (checked-mr (z .n)) j second chose
+      read-served m₃ y k w monotonicReads (λ q. q .readVector) (checked-reads monotonicReads readYourWrites (z .n)) j second chose
       (read-after m₂ k mid lasts w (read-remembers m₁ x k i first w depends))
 
   -- What a write is behind when it is made it is behind at every later moment and at every server.
@@ -102,7 +102,7 @@ module _ (z : Size) (limits : within z ≡ true) (pre : List Step) (x : Step) (m
       → (w₁ : Write) → DependsOn t₁ x i w₁ → (j : ℕ) → Stores t₅ j w₂ → Stores t₅ j w₁ × (before w₁ w₂ ≡ true)
   unfolding stateAfter
   writes-follow-reads k i w₂ read lasts wrote chose w₁ depends =
-      behind-for-ever w₁ w₂ (write-served m₃ y k w₁ writesFollowReads (λ q. q .readVector) (checked-wfr (z .n)) w₂ wrote chose
+      behind-for-ever w₁ w₂ (write-served m₃ y k w₁ writesFollowReads (λ q. q .readVector) (checked-reads writesFollowReads monotonicWrites (z .n)) w₂ wrote chose
       (read-after m₂ k mid lasts w₁ (read-remembers m₁ x k i read w₁ depends)))
 
   -- Monotonic Writes. 002, 3.4: "If Write W1 precedes Write W2 in a session, then, for any server S2, if W2 is in DB(S2) then W1 is also
@@ -111,7 +111,7 @@ module _ (z : Size) (limits : within z ≡ true) (pre : List Step) (x : Step) (m
       → (j : ℕ) → Stores t₅ j w₂ → Stores t₅ j w₁ × (before w₁ w₂ ≡ true)
   unfolding stateAfter
   monotonic-writes k w₁ w₂ first lasts second chose =
-      behind-for-ever w₁ w₂ (write-served m₃ y k w₁ monotonicWrites (λ q. q .writeVector) (checked-mw (z .n)) w₂ second chose
+      behind-for-ever w₁ w₂ (write-served m₃ y k w₁ monotonicWrites (λ q. q .writeVector) (checked-writes writesFollowReads monotonicWrites (z .n)) w₂ second chose
       (write-after m₂ k mid lasts w₁ (write-remembers m₁ x k w₁ first)))
 
 -- No server ever loses a write: what is stored at one moment is stored at every later one.

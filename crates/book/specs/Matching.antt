@@ -9,6 +9,7 @@ use Rattle.words.specs.Lists.{In}
 use Rattle.logs.specs.Write.{Write}
 use Rattle.logs.specs.Witness.{Witness}
 use Rattle.tables.specs.State.{Session, Slot, closed, opened, State}
+use Rattle.steps.specs.Choice.{startOf}
 use Rattle.book.specs.Book.{BookSession, BookSlot, shut, live, Book, held}
 use Rattle.book.specs.BookLaws.{SameMembers}
 
@@ -24,10 +25,10 @@ pub record Covers (s : State) (set : List Write) (v : ℕ → ℕ) : Type 0 wher
   pub above : (w : Write) → In w set → w .clock ≤ v (w .origin)
   pub reached : (j : ℕ) → Reached set j (v j)
 
--- The same guarantees and the same server last used, and the vectors stand for the sets.
+-- The same guarantees, the search starts at the same server, and the vectors stand for the sets.
 pub record MatchingSession (s : State) (q : Session) (r : BookSession) : Type 0 where
   pub chosen : q .guarantees ≡ r .guarantees
-  pub used : q .lastUsed ≡ r .lastUsed
+  pub used : startOf q ≡ r .start
   pub readCovers : Covers s (r .readSet) (q .readVector)
   pub writeCovers : Covers s (r .writeSet) (q .writeVector)
 

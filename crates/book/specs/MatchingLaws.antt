@@ -6,6 +6,7 @@ use mathlib.Core.List.{List}
 use mathlib.Core.Logic.{⊎-elim}
 use mathlib.Core.Path.{_≡_, sym, _∙_, ap, ap₂, fun-ext}
 use native.Mathlib.Omega.{arith}
+use borrow.Author.Tests.{lt-ltb, ltb-true}
 use lib.Dec.{ltb}
 use lib.ListN.{length, take}
 use Rattle.words.specs.ListLaws.{take-least}
@@ -22,19 +23,24 @@ use Rattle.logs.specs.LogLaws.{in-lacking, lacking-above, lacking-in, lacking-a
 use Rattle.tables.specs.Size.{Size}
 use Rattle.tables.specs.State.{Session, State}
 use Rattle.tables.specs.SoundState.{SoundState}
-use Rattle.steps.specs.Choice.{upToDateToRead, upToDateToWrite, readYourWrites, monotonicReads, writesFollowReads, monotonicWrites, startOf, choose}
-use Rattle.steps.specs.Rules.{newWrite, hasRoom, goingOver, sent}
+use Rattle.steps.specs.Choice.{upToDateToRead, upToDateToWrite, readYourWrites, monotonicReads, writesFollowReads, monotonicWrites, startOf, choose, upToDate, mayWriteTo, hasRoom}
+use Rattle.steps.specs.Rules.{newWrite, goingOver, sent}
 use Rattle.steps.specs.Grown.{length-sent}
-use Rattle.book.specs.Book.{BookSession, Book, held, includes, mayRead, mayWrite, latestClock, missing, bookNewWrite, bookSent}
+use Rattle.book.specs.Book.{BookSession, Book, held, includes, mayRead, mayWrite, latestClock, missing, bookNewWrite, bookSent, included, hasPlace, freePlaces}
 use Rattle.book.specs.BookLaws.{SameMembers, includes-at, includes-make, in-missing, missing-not, missing-in, latestClock-above, latestClock-attained}
 use Rattle.book.specs.LeastLaws.{leastFirst-take}
 use Rattle.book.specs.Matching.{Covers, MatchingSession, Matching}
 
+-- Room for one more, and a free place.
+room-alike : (a b l : ℕ) → a ≡ b → ltb a l ≡ ltb 0 (l - b)
+room-alike a b l e =
+    same-test (ltb a l) (ltb 0 (l - b)) (λ h. lt-ltb 0 (l - b) (omega (arith, ltb-true a l h))) (λ h. lt-ltb a l (omega (arith, ltb-true 0 (l - b) h)))
+
 -- Checks that agree at each server find the same server.
 pub choose-alike : {s : State} {q : Session} {r : BookSession} → MatchingSession s q r → (n reach : ℕ) {passes passes′ : ℕ → Bool} → ((i : ℕ) → passes i ≡ passes′ i)
-    → choose n (startOf q) reach passes ≡ choose n (r .lastUsed - 1) reach passes′
+    → choose n (startOf q) reach passes ≡ choose n (r .start) reach passes′
 unfolding startOf
-choose-alike c n reach h = ap₂ (λ start f. choose n start reach f) (ap (λ k. k - 1) (c .used)) (fun-ext h)
+choose-alike c n reach h = ap₂ (λ start f. choose n start reach f) (c .used) (fun-ext h)
 
 module _ {z : Size} {s : State} {b : Book} (sound : SoundState z s) (m : Matching s b) where
   -- Domination by a server's vector is inclusion in what the server holds.
@@ -59,25 +65,25 @@ module _ {z : Size} {s : State} {b : Book} (sound : SoundState z s) (m : Matchin
 
   -- A check of the read set and of the write set, each under a guarantee.
   pub checked : {q : Session} {r : BookSession} → MatchingSession s q r → (onRead onWrite : ℕ → Bool) (i : ℕ)
-      → (implies (onRead (q .guarantees)) (dominates (z .n) (s .vector i) (q .readVector)) && implies (onWrite (q .guarantees)) (dominates (z .n) (s .vector i) (q .writeVector)))
-      ≡ (implies (onRead (r .guarantees)) (includes (held b i) (r .readSet)) && implies (onWrite (r .guarantees)) (includes (held b i) (r .writeSet)))
+      → upToDate onRead onWrite (z .n) q (s .vector i) ≡ included onRead onWrite r (held b i)
+  unfolding upToDate included
   checked c onRead onWrite i =
       ap₂ _&&_ (ap₂ implies (ap onRead (c .chosen)) (dominates-includes i (c .readCovers)))
       (ap₂ implies (ap onWrite (c .chosen)) (dominates-includes i (c .writeCovers)))
 
   -- Figure 1 of 002 by vectors and by sets: who may serve a read, who a write, and who has a free place besides.
-  pub read-checked : {q : Session} {r : BookSession} → MatchingSession s q r → (i : ℕ) → upToDateToRead (z .n) q (s .vector i) ≡ mayRead r (held b i)
+  pub read-checked : {q : Session} {r : BookSession} → MatchingSession s q r → (i : ℕ) → upToDateToRead z s q i ≡ mayRead r (held b i)
   unfolding upToDateToRead mayRead
   read-checked c i = checked c monotonicReads readYourWrites i
 
-  pub write-checked : {q : Session} {r : BookSession} → MatchingSession s q r → (i : ℕ) → upToDateToWrite (z .n) q (s .vector i) ≡ mayWrite r (held b i)
+  pub write-checked : {q : Session} {r : BookSession} → MatchingSession s q r → (i : ℕ) → upToDateToWrite z s q i ≡ mayWrite r (held b i)
   unfolding upToDateToWrite mayWrite
   write-checked c i = checked c writesFollowReads monotonicWrites i
 
   pub roomy-checked : {q : Session} {r : BookSession} → MatchingSession s q r → (i : ℕ)
-      → (upToDateToWrite (z .n) q (s .vector i) && hasRoom z s i) ≡ (mayWrite r (held b i) && ltb (length (held b i)) (z .l))
-  unfolding hasRoom
-  roomy-checked c i = ap₂ _&&_ (write-checked c i) (ap (λ k. ltb k (z .l)) (m .sizes i))
+      → mayWriteTo z s q i ≡ (mayWrite r (held b i) && hasPlace z b i)
+  unfolding mayWriteTo hasRoom hasPlace freePlaces held
+  roomy-checked c i = ap₂ _&&_ (write-checked c i) (room-alike (length (s .log i)) (length (b .arrived i)) (z .l) (m .sizes i))
 
   -- C1 gives the same clock by vectors and by sets.
   pub greatest-latest : (i : ℕ) → greatest (z .n) (s .vector i) ≡ latestClock (held b i)
@@ -118,11 +124,11 @@ module _ {z : Size} {s : State} {b : Book} (sound : SoundState z s) (m : Matchin
 
   -- The same writes go over, and as many.
   pub sent-alike : (source target most : ℕ) → sent z s source target most ≡ bookSent z b source target most
-  unfolding sent goingOver bookSent
+  unfolding sent goingOver bookSent freePlaces held
   sent-alike source target most =
       take-least (lacking (s .vector target) (s .log source)) most (z .l - length (s .log target))
       ∙ (ap (λ k. take (min most (z .l - k)) (lacking (s .vector target) (s .log source))) (m .sizes target)
-      ∙ sym (leastFirst-take (min most (z .l - length (held b target))) (missing (held b source) (held b target))
+      ∙ sym (leastFirst-take (min most (z .l - length (b .arrived target))) (missing (held b source) (held b target))
       (lacking-ascending (s .vector target) (sound .ascending source)) (lacking-missing source target)))
 
   pub goingOver-length : (source target most : ℕ) → goingOver z s source target most ≡ length (bookSent z b source target most)

@@ -16,9 +16,10 @@ use Rattle.tables.specs.State.{Session, opened, State, withVector, withLog, wit
 use Rattle.tables.specs.SoundState.{SoundState}
 use Rattle.tables.specs.Meaning.{Means}
 use Rattle.tables.specs.MeaningLaws.{means-state}
+use Rattle.steps.specs.ChoiceLaws.{may-current}
 use Rattle.steps.specs.Step.{Step}
-use Rattle.steps.specs.Choice.{readYourWrites, monotonicReads, writesFollowReads, monotonicWrites, upToDateToRead, upToDateToWrite}
-use Rattle.steps.specs.Rules.{newWrite, afterRead, afterWrite, accepted, hasRoom, rule}
+use Rattle.steps.specs.Choice.{readYourWrites, monotonicReads, writesFollowReads, monotonicWrites, upToDateToRead, upToDateToWrite, upToDate}
+use Rattle.steps.specs.Rules.{newWrite, afterRead, afterWrite, accepted, rule}
 use Rattle.steps.specs.Done.{ReadDone, WriteDone}
 use Rattle.book.specs.Book.{relevant}
 use Rattle.book.specs.Guarantee.{database, Stores, DependsOn, Reads, Writes, Lasts, Chose}
@@ -36,23 +37,17 @@ module _ {z : Size} {s : State} (sound : SoundState z s) where
   dominated-stored i v h w m l =
       sound .complete i w m (omega (arith, dominates-at (z .n) (s .vector i) v h (w .origin) (sound .origins (w .origin) w m)))
 
--- The four checks, each by the guarantee that asks for it.
-module _ (n : ℕ) (q : Session) (v : ℕ → ℕ) where
-  pub checked-mr : upToDateToRead n q v ≡ true → monotonicReads (q .guarantees) ≡ true → dominates n v (q .readVector) ≡ true
-  unfolding upToDateToRead
-  checked-mr h g = implies-use (monotonicReads (q .guarantees)) _ (and-left (implies (monotonicReads (q .guarantees)) (dominates n v (q .readVector))) _ h) g
+-- What the check of a server asks, guarantee by guarantee.
+module _ (forReads forWrites : ℕ → Bool) (n : ℕ) (q : Session) (v : ℕ → ℕ) (h : upToDate forReads forWrites n q v ≡ true) where
+  pub checked-reads : forReads (q .guarantees) ≡ true → dominates n v (q .readVector) ≡ true
+  unfolding upToDate
+  checked-reads g =
+      implies-use (forReads (q .guarantees)) _ (and-left (implies (forReads (q .guarantees)) (dominates n v (q .readVector))) _ h) g
 
-  pub checked-ryw : upToDateToRead n q v ≡ true → readYourWrites (q .guarantees) ≡ true → dominates n v (q .writeVector) ≡ true
-  unfolding upToDateToRead
-  checked-ryw h g = implies-use (readYourWrites (q .guarantees)) _ (and-right (implies (monotonicReads (q .guarantees)) (dominates n v (q .readVector))) _ h) g
-
-  pub checked-wfr : upToDateToWrite n q v ≡ true → writesFollowReads (q .guarantees) ≡ true → dominates n v (q .readVector) ≡ true
-  unfolding upToDateToWrite
-  checked-wfr h g = implies-use (writesFollowReads (q .guarantees)) _ (and-left (implies (writesFollowReads (q .guarantees)) (dominates n v (q .readVector))) _ h) g
-
-  pub checked-mw : upToDateToWrite n q v ≡ true → monotonicWrites (q .guarantees) ≡ true → dominates n v (q .writeVector) ≡ true
-  unfolding upToDateToWrite
-  checked-mw h g = implies-use (monotonicWrites (q .guarantees)) _ (and-right (implies (writesFollowReads (q .guarantees)) (dominates n v (q .readVector))) _ h) g
+  pub checked-writes : forWrites (q .guarantees) ≡ true → dominates n v (q .writeVector) ≡ true
+  unfolding upToDate
+  checked-writes g =
+      implies-use (forWrites (q .guarantees)) _ (and-right (implies (forReads (q .guarantees)) (dominates n v (q .readVector))) _ h) g
 
 -- ---- what a session remembers of a read and of a write
 
@@ -131,8 +126,9 @@ module _ {z : Size} {s : State} {t : List ℕ} (means : Means z s t) (y : Step) 
       (c .chosen)
 
   pub read-served : (guarantee : ℕ → Bool) (vector : Session → ℕ → ℕ)
-      → ((q : Session) (v : ℕ → ℕ) → upToDateToRead (z .n) q v ≡ true → guarantee (q .guarantees) ≡ true → dominates (z .n) v (vector q) ≡ true)
+      → ((q : Session) (v : ℕ → ℕ) → upToDate monotonicReads readYourWrites (z .n) q v ≡ true → guarantee (q .guarantees) ≡ true → dominates (z .n) v (vector q) ≡ true)
       → (j : ℕ) → Reads t y k j → Chose t k guarantee → Remembers s k vector w → Stores t j w
+  unfolding upToDateToRead
   read-served guarantee vector checked j r c m =
       let d : ReadDone z s k (y .b) (y .c) (rule z s y .answer) (rule z s y .state) = read-did means y k j r in
       let q = d .session in
@@ -141,14 +137,15 @@ module _ {z : Size} {s : State} {t : List ℕ} (means : Means z s t) (y : Step) 
       (subst (λ (p : Session). w .clock ≤ vector p (w .origin)) (one-session (m .is) (d .open-slot)) (m .covers))))
 
   pub write-served : (guarantee : ℕ → Bool) (vector : Session → ℕ → ℕ)
-      → ((q : Session) (v : ℕ → ℕ) → upToDateToWrite (z .n) q v ≡ true → guarantee (q .guarantees) ≡ true → dominates (z .n) v (vector q) ≡ true)
+      → ((q : Session) (v : ℕ → ℕ) → upToDate writesFollowReads monotonicWrites (z .n) q v ≡ true → guarantee (q .guarantees) ≡ true → dominates (z .n) v (vector q) ≡ true)
       → (w₂ : Write) → Writes t y k w₂ → Chose t k guarantee → Remembers s k vector w → Precedes (rule z s y .state) w w₂
+  unfolding upToDateToWrite
   write-served guarantee vector checked w₂ r c m =
       let d : WriteDone z s k (y .b) (y .c) (y .d) (rule z s y .answer) (rule z s y .state) = write-did means y k w₂ r in
       let q = d .session in
       let held : In w (s .log (d .server)) =
       dominated-stored (means .state) (d .server) (vector q) (checked q (s .vector (d .server))
-      (and-left (upToDateToWrite (z .n) q (s .vector (d .server))) (hasRoom z s (d .server)) (d .chosen .passed))
+      (may-current z s q (d .server) (d .chosen .passed))
       (chose-here guarantee q (d .open-slot) c)) w (m .made)
       (subst (λ (p : Session). w .clock ≤ vector p (w .origin)) (one-session (m .is) (d .open-slot)) (m .covers)) in
       subst₂ (λ (u : State) (v : Write). Precedes u w v) (sym (d .leaves)) (sym (write-is means y k w₂ r))

@@ -1,5 +1,5 @@
 -- A book that matches a sound state answers every step alike and still matches after it. Assumes nothing.
-use Prim.Native.Nat.{ℕ, suc, _<_, _≤_}
+use Prim.Native.Nat.{ℕ, _<_, _≤_}
 use mathlib.Core.List.{List, [], _∷_, _++_}
 use mathlib.Core.Logic.{⊎-elim}
 use mathlib.Core.Option.{Option, none, some}
@@ -14,9 +14,10 @@ use Rattle.logs.specs.Log.{follow}
 use Rattle.tables.specs.Size.{Size}
 use Rattle.tables.specs.State.{Session, Slot, closed, opened, State, withVector, withLog}
 use Rattle.tables.specs.SoundState.{SoundState}
-use Rattle.steps.specs.Step.{Op, bad, opens, closes, reads, writes, exchanges}
+use Rattle.steps.specs.Choice.{startOf}
+use Rattle.steps.specs.Step.{Op, bad, opens, closes, reads, writes, exchanges, refused, done}
 use Rattle.steps.specs.Rules.{Outcome, refuse, newSession, opening, closing, readAnswer, afterRead, readFrom, reading, afterWrite, accepted, writeAnswer, writeTo, writing, sent, received, exchangeAnswer, exchanging, obeyed}
-use Rattle.book.specs.Book.{BookSession, BookSlot, shut, live, Book, held, relevant, newestOn, latestClock, BookOutcome, bookRefuse, bookOpening, bookClosing, bookAnswer, bookReadFrom, bookReading, bookNewWrite, bookAccepted, bookWriteTo, bookWriting, bookExchanging, bookStep, withArrived}
+use Rattle.book.specs.Book.{BookSession, BookSlot, shut, live, Book, held, relevant, newestOn, latestClock, BookOutcome, bookRefuse, bookOpening, bookClosing, bookAnswer, bookReadFrom, bookReading, bookNewWrite, bookAccepted, bookWriteTo, bookWriting, bookExchanging, bookStep, withArrived, bare, bookNewSession, bookAfterRead, bookAfterWrite}
 use Rattle.book.specs.BookLaws.{latestClock-above}
 use Rattle.book.specs.NewestLaws.{newestOn-lastOn}
 use Rattle.book.specs.Matching.{MatchingSession, MatchingSlot, Matching}
@@ -36,26 +37,26 @@ answer-alike i (some w) = refl
 module _ (z : Size) (s : State) (b : Book) (sound : SoundState z s) (m : Matching s b) where
   -- A refusal changes nothing.
   pub refuse-alike : (code : ℕ) → Alike (refuse code s) (bookRefuse code b)
-  unfolding refuse bookRefuse
+  unfolding refuse refused bookRefuse bare
   refuse-alike code = (refl, m)
 
   -- ---- open and close
 
   -- A slot that matches is closed in both or open in both.
   pub open-alike : (k g : ℕ) (o : Slot) (p : BookSlot) → MatchingSlot s o p → Alike (opening s k g o) (bookOpening b k g p)
-  unfolding opening bookOpening newSession
+  unfolding opening bookOpening newSession bookNewSession done bare startOf
   open-alike k g closed shut c = (
     refl,
     slot-matching m k (opened (newSession g))
-        (live (record { guarantees = g; lastUsed = 0; readSet = []; writeSet = [] }))
-        (record { chosen = refl; used = refl; readCovers = covers-none s; writeCovers = covers-none s }),
+        (live (bookNewSession g))
+        (record { chosen = refl; used = omega arith; readCovers = covers-none s; writeCovers = covers-none s }),
   )
   open-alike k g closed (live r) c = absurd c
   open-alike k g (opened q) shut c = absurd c
   open-alike k g (opened q) (live r) c = refuse-alike 3
 
   pub close-alike : (k : ℕ) (o : Slot) (p : BookSlot) → MatchingSlot s o p → Alike (closing s k o) (bookClosing b k p)
-  unfolding closing bookClosing
+  unfolding closing bookClosing done bare
   close-alike k closed shut c = refuse-alike 3
   close-alike k closed (live r) c = absurd c
   close-alike k (opened q) shut c = absurd c
@@ -65,15 +66,15 @@ module _ (z : Size) (s : State) (b : Book) (sound : SoundState z s) (m : Matchin
 
   -- The server found answers alike, and the session's read set grows by what that server holds.
   pub readFrom-alike : (k item : ℕ) (q : Session) (r : BookSession) → MatchingSession s q r → (o : Option ℕ) → Alike (readFrom s k item q o) (bookReadFrom b k item r o)
-  unfolding readFrom bookReadFrom afterRead relevant
+  unfolding readFrom bookReadFrom afterRead bookAfterRead relevant startOf
   readFrom-alike k item q r c none = refuse-alike 6
   readFrom-alike k item q r c (some i) = (
     ap (readAnswer i) (sym (newestOn-lastOn item (sound .ascending i) (m .members i))) ∙ answer-alike i (newestOn item (held b i)),
     slot-matching m k (opened (afterRead q i (s .vector i)))
-        (live (record { guarantees = r .guarantees; lastUsed = suc i; readSet = held b i ++ r .readSet; writeSet = r .writeSet }))
+        (live (bookAfterRead r i (held b i)))
         (record {
           chosen = c .chosen;
-          used = refl;
+          used = omega arith;
           readCovers = covers-join (c .readCovers) (covers-server sound m i);
           writeCovers = c .writeCovers;
         }),
@@ -94,13 +95,13 @@ module _ (z : Size) (s : State) (b : Book) (sound : SoundState z s) (m : Matchin
   -- One server and one session take in a write that is later than all that the server holds.
   pub accepted-matching : (k : ℕ) (q : Session) (r : BookSession) → MatchingSession s q r → (w : Write) → latestClock (held b (w .origin)) < w .clock
       → Matching (accepted s k q (w .origin) w) (bookAccepted b k r (w .origin) w .book)
-  unfolding accepted bookAccepted afterWrite withVector withLog
+  unfolding accepted bookAccepted afterWrite bookAfterWrite withVector withLog startOf
   accepted-matching k q r c w later =
       slot-matching (arrived-matching m i v (w ∷ []) g (takesIn-end (s .log i) (w ∷ []))) k (opened (afterWrite q i (w .clock)))
-      (live (record { guarantees = r .guarantees; lastUsed = suc i; readSet = r .readSet; writeSet = w ∷ r .writeSet }))
+      (live (bookAfterWrite r i w))
       (record {
         chosen = c .chosen;
-        used = refl;
+        used = omega arith;
         readCovers = covers-kept s t kept (c .readCovers);
         writeCovers = covers-write (covers-kept s t kept (c .writeCovers)) w (back w (in-append-right (s .log i) (here refl))) top;
       })

@@ -7,7 +7,8 @@ use mathlib.Core.Option.{none, some}
 use mathlib.Core.Path.{_≡_, refl, sym, _∙_, ap, ap₂, subst}
 use native.Mathlib.Nat.{pow-succ', div-div-eq-div-mul, div-one, zero-div}
 use native.Mathlib.Omega.{arith}
-use borrow.Author.Tests.{eqb-true, eqb-false, eq-eqb, ne-eqb}
+use borrow.Author.Tests.{eqb-true, eqb-false, eq-eqb, ne-eqb, ltb-true, lt-ltb}
+use lib.ListN.{length}
 use lib.Dec.{eqb}
 use Rattle.words.specs.CaseLaws.{lt-or-le}
 use Rattle.words.specs.Lists.{In, here, there}
@@ -17,7 +18,7 @@ use Rattle.tables.specs.Size.{Size}
 use Rattle.tables.specs.State.{Session, opened, State}
 use Rattle.tables.specs.SoundState.{SoundState, SoundSession, SoundSlot}
 use Rattle.steps.specs.Step.{reachInRange}
-use Rattle.steps.specs.Choice.{reaches, startOf, next, onwards, around, choose}
+use Rattle.steps.specs.Choice.{reaches, startOf, next, onwards, around, choose, upToDateToWrite, hasRoom, mayWriteTo}
 
 -- ---- the search order
 
@@ -106,6 +107,23 @@ unfolding startOf
 starts {z} {s} some-server sound k q e =
     let c : SoundSession (z .n) (λ j. s .vector j j) q = subst (SoundSlot (z .n) (λ j. s .vector j j)) e (sound .slots k) in
     omega (arith, c .used)
+
+-- ---- who may be written to
+
+module _ (z : Size) (s : State) (q : Session) (i : ℕ) where
+  -- A server that may be written to is up to date and has a free place,
+  pub may-current : mayWriteTo z s q i ≡ true → upToDateToWrite z s q i ≡ true
+  unfolding mayWriteTo
+  may-current h = and-left (upToDateToWrite z s q i) (hasRoom z s i) h
+
+  pub may-room : mayWriteTo z s q i ≡ true → length (s .log i) < z .l
+  unfolding mayWriteTo hasRoom
+  may-room h = ltb-true (length (s .log i)) (z .l) (and-right (upToDateToWrite z s q i) (hasRoom z s i) h)
+
+  -- and every server that is and has may be.
+  pub may-write : upToDateToWrite z s q i ≡ true → length (s .log i) < z .l → mayWriteTo z s q i ≡ true
+  unfolding mayWriteTo hasRoom
+  may-write h l = and-both (upToDateToWrite z s q i) (hasRoom z s i) h (lt-ltb (length (s .log i)) (z .l) l)
 
 -- ---- what the search found
 

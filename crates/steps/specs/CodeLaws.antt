@@ -1,24 +1,26 @@
 -- The rules give each code exactly on its condition. Assumes nothing.
 use Prim.Native.Nat.{ℕ, zero, suc, _<_, _≤_}
 use mathlib.Core.Bool.{Bool, true, false, _&&_}
-use mathlib.Core.Logic.{_↔_}
+use mathlib.Core.Logic.{_↔_, ⊎-elim}
 use mathlib.Core.Option.{Option, none, some}
 use mathlib.Core.Path.{_≡_, refl, sym, _∙_, ap, subst}
 use native.Mathlib.Omega.{arith}
 use borrow.Author.Tests.{eqb-true, eqb-false, eq-eqb, ne-eqb}
+use lib.ListN.{length}
 use lib.Dec.{eqb}
+use Rattle.words.specs.CaseLaws.{lt-or-le}
 use Rattle.words.specs.ListLaws.{none-first}
-use Rattle.words.specs.TestLaws.{cond-elim, cond-true, cond-false, not-true-false, true-not-false, and-left, and-right, and-both}
+use Rattle.words.specs.TestLaws.{cond-elim, cond-true, cond-false, not-true-false, true-not-false, and-left, and-right}
 use Rattle.logs.specs.Write.{Write}
 use Rattle.logs.specs.Log.{lastOn}
 use Rattle.tables.specs.Size.{Size}
 use Rattle.tables.specs.State.{Session, Slot, closed, opened, State}
 use Rattle.tables.specs.SoundState.{SoundState}
 use Rattle.steps.specs.Step.{Op, bad, opens, closes, reads, writes, exchanges, refused, done}
-use Rattle.steps.specs.Choice.{upToDateToRead, upToDateToWrite, reaches, startOf, choose, around}
-use Rattle.steps.specs.ChoiceLaws.{Chosen, choose-some, choose-none, around-below, starts}
-use Rattle.steps.specs.Rules.{Outcome, refuse, opening, closing, readAnswer, readFrom, reading, writeAnswer, writeTo, hasRoom, writing, exchangeAnswer, exchanging, obeyed}
-use Rattle.steps.specs.Codes.{OutOfRange, out-of-range, WrongSlot, opens-open, closes-closed, reads-closed, writes-closed, ToItself, to-itself, NoneReachable, reads-none, writes-none, Behind, reads-behind, writes-behind, Full, writes-full, Given}
+use Rattle.steps.specs.Choice.{upToDateToRead, upToDateToWrite, reaches, startOf, choose, around, mayWriteTo}
+use Rattle.steps.specs.ChoiceLaws.{Chosen, choose-some, choose-none, around-below, starts, may-current, may-room, may-write}
+use Rattle.steps.specs.Rules.{Outcome, refuse, opening, closing, readAnswer, readFrom, reading, writeAnswer, writeTo, writing, exchangeAnswer, exchanging, obeyed}
+use Rattle.steps.specs.Codes.{OutOfRange, out-of-range, WrongSlot, opens-open, closes-closed, reads-closed, writes-closed, ToItself, to-itself, NoneReachable, reads-none, writes-none, Behind, reads-behind, writes-behind, Full, writes-full, Given, NoRoom}
 
 -- Nothing found where every reachable server fails.
 choose-fails : (n start reach : ℕ) (passes : ℕ → Bool) → start < n → ((i : ℕ) → i < n → reaches reach i ≡ true → passes i ≡ false)
@@ -51,7 +53,7 @@ module _ (z : Size) (s : State) (some-server : 1 ≤ z .n) (sound : SoundState z
   closing-says k (opened q) e = tt
 
   readFrom-says : (k item reach : ℕ) (q : Session) → s .slot k ≡ opened q → (reach ≡ 0 → ⊥) → (found : Option ℕ)
-      → (found ≡ none → (i : ℕ) → i < z .n → reaches reach i ≡ true → upToDateToRead (z .n) q (s .vector i) ≡ false)
+      → (found ≡ none → (i : ℕ) → i < z .n → reaches reach i ≡ true → upToDateToRead z s q i ≡ false)
       → Says (reads k item reach) (readFrom s k item q found)
   unfolding readFrom refuse refused
   readFrom-says k item reach q e r none stale = reads-behind (record { session = q; is = e; reached = r; stale = stale refl })
@@ -63,17 +65,17 @@ module _ (z : Size) (s : State) (some-server : 1 ≤ z .n) (sound : SoundState z
   reading-says k item reach (opened q) e =
       cond-elim (Says (reads k item reach)) (eqb reach 0) (λ t. reads-none q e (eqb-true reach 0 t)) (λ t. readFrom-says k item reach q e
       (eqb-false reach 0 t) _
-      (choose-none (z .n) (startOf q) reach (λ j. upToDateToRead (z .n) q (s .vector j)) (starts some-server sound k q e)))
+      (choose-none (z .n) (startOf q) reach (upToDateToRead z s q) (starts some-server sound k q e)))
 
   writeTo-says : (k item value reach : ℕ) (q : Session) → s .slot k ≡ opened q → (reach ≡ 0 → ⊥) → (found roomy : Option ℕ)
-      → (found ≡ none → (i : ℕ) → i < z .n → reaches reach i ≡ true → upToDateToWrite (z .n) q (s .vector i) ≡ false)
-      → ((i : ℕ) → found ≡ some i → Chosen (z .n) (startOf q) reach (λ j. upToDateToWrite (z .n) q (s .vector j)) i)
-      → (roomy ≡ none → (i : ℕ) → i < z .n → reaches reach i ≡ true → (upToDateToWrite (z .n) q (s .vector i) && hasRoom z s i) ≡ false)
+      → (found ≡ none → (i : ℕ) → i < z .n → reaches reach i ≡ true → upToDateToWrite z s q i ≡ false)
+      → ((i : ℕ) → found ≡ some i → Chosen (z .n) (startOf q) reach (upToDateToWrite z s q) i)
+      → (roomy ≡ none → (i : ℕ) → i < z .n → reaches reach i ≡ true → mayWriteTo z s q i ≡ false)
       → Says (writes k item value reach) (writeTo z s k item value q found roomy)
   unfolding writeTo writeAnswer refuse refused
   writeTo-says k item value reach q e r none roomy stale found full = writes-behind (record { session = q; is = e; reached = r; stale = stale refl })
   writeTo-says k item value reach q e r (some i) none stale found full =
-      let c : Chosen (z .n) (startOf q) reach (λ j. upToDateToWrite (z .n) q (s .vector j)) i = found i refl in
+      let c : Chosen (z .n) (startOf q) reach (upToDateToWrite z s q) i = found i refl in
       writes-full
       (record {
         session = q;
@@ -85,7 +87,7 @@ module _ (z : Size) (s : State) (some-server : 1 ≤ z .n) (sound : SoundState z
         upToDate = c .passed;
         full =
             λ j l h u.
-            not-true-false (hasRoom z s j) (λ m. true-not-false (and-both (upToDateToWrite (z .n) q (s .vector j)) (hasRoom z s j) u m) (full refl j l h));
+            ⊎-elim (λ m. true-not-false (may-write z s q j u m) (full refl j l h)) (λ m. m) (lt-or-le (length (s .log j)) (z .l));
       })
   writeTo-says k item value reach q e r (some i) (some j) stale found full = tt
 
@@ -95,9 +97,9 @@ module _ (z : Size) (s : State) (some-server : 1 ≤ z .n) (sound : SoundState z
   writing-says k item value reach (opened q) e =
       let h = starts some-server sound k q e in
       cond-elim (Says (writes k item value reach)) (eqb reach 0) (λ t. writes-none q e (eqb-true reach 0 t)) (λ t. writeTo-says k item value
-      reach q e (eqb-false reach 0 t) _ _ (choose-none (z .n) (startOf q) reach (λ j. upToDateToWrite (z .n) q (s .vector j)) h)
-      (λ i. choose-some (z .n) (startOf q) reach (λ j. upToDateToWrite (z .n) q (s .vector j)) i h)
-      (choose-none (z .n) (startOf q) reach (λ j. upToDateToWrite (z .n) q (s .vector j) && hasRoom z s j) h))
+      reach q e (eqb-false reach 0 t) _ _ (choose-none (z .n) (startOf q) reach (upToDateToWrite z s q) h)
+      (λ i. choose-some (z .n) (startOf q) reach (upToDateToWrite z s q) i h)
+      (choose-none (z .n) (startOf q) reach (mayWriteTo z s q) h))
 
   exchanging-says : (source target most : ℕ) → Says (exchanges source target most) (exchanging z s source target most)
   unfolding exchanging exchangeAnswer refuse refused
@@ -119,14 +121,14 @@ module _ (z : Size) (s : State) (some-server : 1 ≤ z .n) (sound : SoundState z
   -- A read or write goes on with an open slot and a reach that is not 0.
   read-goes : (k item reach : ℕ) (q : Session) → s .slot k ≡ opened q → (reach ≡ 0 → ⊥)
       → obeyed z s (reads k item reach)
-      ≡ readFrom s k item q (choose (z .n) (startOf q) reach (λ i. upToDateToRead (z .n) q (s .vector i)))
+      ≡ readFrom s k item q (choose (z .n) (startOf q) reach (upToDateToRead z s q))
   unfolding obeyed reading
   read-goes k item reach q e r = ap (reading z s k item reach) e ∙ cond-false (eqb reach 0) _ _ (ne-eqb reach 0 r)
 
   write-goes : (k item value reach : ℕ) (q : Session) → s .slot k ≡ opened q → (reach ≡ 0 → ⊥)
       → obeyed z s (writes k item value reach)
-      ≡ writeTo z s k item value q (choose (z .n) (startOf q) reach (λ i. upToDateToWrite (z .n) q (s .vector i)))
-      (choose (z .n) (startOf q) reach (λ i. upToDateToWrite (z .n) q (s .vector i) && hasRoom z s i))
+      ≡ writeTo z s k item value q (choose (z .n) (startOf q) reach (upToDateToWrite z s q))
+      (choose (z .n) (startOf q) reach (mayWriteTo z s q))
   unfolding obeyed writing
   write-goes k item value reach q e r = ap (writing z s k item value reach) e ∙ cond-false (eqb reach 0) _ _ (ne-eqb reach 0 r)
 
@@ -163,32 +165,34 @@ module _ (z : Size) (s : State) (some-server : 1 ≤ z .n) (sound : SoundState z
       let q = b .session in
       ap (λ o. o .answer .code) (read-goes k item reach q (b .is) (b .reached))
       ∙ ap (λ f. readFrom s k item q f .answer .code)
-      (choose-fails (z .n) (startOf q) reach (λ i. upToDateToRead (z .n) q (s .vector i)) (starts some-server sound k q (b .is)) (b .stale))
+      (choose-fails (z .n) (startOf q) reach (upToDateToRead z s q) (starts some-server sound k q (b .is)) (b .stale))
   behind-code (writes-behind {k = k} {item = item} {value = value} {reach = reach} b) =
       let q = b .session in
       ap (λ o. o .answer .code) (write-goes k item value reach q (b .is) (b .reached))
       ∙ ap
-      (λ f. writeTo z s k item value q f (choose (z .n) (startOf q) reach (λ i. upToDateToWrite (z .n) q (s .vector i) && hasRoom z s i)) .answer .code)
-      (choose-fails (z .n) (startOf q) reach (λ i. upToDateToWrite (z .n) q (s .vector i)) (starts some-server sound k q (b .is)) (b .stale))
+      (λ f. writeTo z s k item value q f (choose (z .n) (startOf q) reach (mayWriteTo z s q)) .answer .code)
+      (choose-fails (z .n) (startOf q) reach (upToDateToWrite z s q) (starts some-server sound k q (b .is)) (b .stale))
 
   -- Up to date somewhere and with room nowhere: 7.
-  found : (k item value : ℕ) (q : Session) (f : Option ℕ) → (f ≡ none → ⊥) → writeTo z s k item value q f none .answer .code ≡ 7
+  somewhere : (k item value : ℕ) (q : Session) (found : Option ℕ) → (found ≡ none → ⊥) → writeTo z s k item value q found none .answer .code ≡ 7
   unfolding writeTo refuse refused
-  found k item value q none h = absurd (h refl)
-  found k item value q (some i) h = refl
+  somewhere k item value q none h = absurd (h refl)
+  somewhere k item value q (some i) h = refl
+
+  -- A server that has no room may not be written to.
+  full-fails : {k reach : ℕ} (b : NoRoom z s k reach) → (i : ℕ) → i < z .n → reaches reach i ≡ true → mayWriteTo z s (b .session) i ≡ false
+  full-fails b i l r =
+      not-true-false (mayWriteTo z s (b .session) i) (λ t. omega (arith, may-room z s (b .session) i t, b .full i l r (may-current z s (b .session) i t)))
 
   full-code : {o : Op} → Full z s o → Code o 7
   full-code (writes-full {k = k} {item = item} {value = value} {reach = reach} b) =
       let q = b .session in
       let h = starts some-server sound k q (b .is) in
+      let current = choose (z .n) (startOf q) reach (upToDateToWrite z s q) in
+      let found : current ≡ none → ⊥ = λ e. true-not-false (b .upToDate) (choose-none (z .n) (startOf q) reach (upToDateToWrite z s q) h e (b .server) (b .below) (b .reachable)) in
       ap (λ o. o .answer .code) (write-goes k item value reach q (b .is) (b .reached))
-      ∙ (ap
-      (λ f. writeTo z s k item value q (choose (z .n) (startOf q) reach (λ i. upToDateToWrite (z .n) q (s .vector i))) f .answer .code)
-      (choose-fails (z .n) (startOf q) reach (λ i. upToDateToWrite (z .n) q (s .vector i) && hasRoom z s i) h (λ i l r. not-true-false
-      (upToDateToWrite (z .n) q (s .vector i) && hasRoom z s i) (λ t. true-not-false
-      (and-right (upToDateToWrite (z .n) q (s .vector i)) (hasRoom z s i) t)
-      (b .full i l r (and-left (upToDateToWrite (z .n) q (s .vector i)) (hasRoom z s i) t)))))
-      ∙ found k item value q _ (λ e. true-not-false (b .upToDate) (choose-none (z .n) (startOf q) reach (λ i. upToDateToWrite (z .n) q (s .vector i)) h e (b .server) (b .below) (b .reachable))))
+      ∙ (ap (λ f. writeTo z s k item value q current f .answer .code) (choose-fails (z .n) (startOf q) reach (mayWriteTo z s q) h (full-fails b))
+      ∙ somewhere k item value q current found)
 
   -- ---- both
 

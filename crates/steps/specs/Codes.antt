@@ -1,13 +1,13 @@
 -- 01, "Answer codes": "given exactly when, no smaller code applying". Each code's condition, by what is asked of a state. Code 1 is the
 -- table's (Calls.antt). Assumes nothing.
-use Prim.Native.Nat.{ℕ, zero, suc, _<_}
+use Prim.Native.Nat.{ℕ, zero, suc, _<_, _≤_}
 use mathlib.Core.Bool.{Bool, true, false}
 use mathlib.Core.Path.{_≡_}
+use lib.ListN.{length}
 use Rattle.tables.specs.Size.{Size}
 use Rattle.tables.specs.State.{Session, closed, opened, State}
 use Rattle.steps.specs.Step.{Op, bad, opens, closes, reads, writes, exchanges}
 use Rattle.steps.specs.Choice.{reaches, upToDateToRead, upToDateToWrite}
-use Rattle.steps.specs.Rules.{hasRoom}
 
 -- 2: "kind, slot, server, item, guarantees, reach or unused word out of range" (`asked` in Step.antt)
 pub data OutOfRange : Op → Type 0 where
@@ -30,15 +30,15 @@ pub data NoneReachable (s : State) : Op → Type 0 where
   writes-none : {k item value reach : ℕ} (q : Session) → s .slot k ≡ opened q → reach ≡ 0 → NoneReachable s (writes k item value reach)
 
 -- 6: "behind: reach isn't 0 and no reachable server is up to date"
-pub record BehindBy (z : Size) (s : State) (upToDate : ℕ → Session → (ℕ → ℕ) → Bool) (k reach : ℕ) : Type 0 where
+pub record BehindBy (z : Size) (s : State) (passes : Session → ℕ → Bool) (k reach : ℕ) : Type 0 where
   pub session : Session
   pub is : s .slot k ≡ opened session
   pub reached : reach ≡ 0 → ⊥
-  pub stale : (i : ℕ) → i < z .n → reaches reach i ≡ true → upToDate (z .n) session (s .vector i) ≡ false
+  pub stale : (i : ℕ) → i < z .n → reaches reach i ≡ true → passes session i ≡ false
 
 pub data Behind (z : Size) (s : State) : Op → Type 0 where
-  reads-behind : {k item reach : ℕ} → BehindBy z s upToDateToRead k reach → Behind z s (reads k item reach)
-  writes-behind : {k item value reach : ℕ} → BehindBy z s upToDateToWrite k reach → Behind z s (writes k item value reach)
+  reads-behind : {k item reach : ℕ} → BehindBy z s (upToDateToRead z s) k reach → Behind z s (reads k item reach)
+  writes-behind : {k item value reach : ℕ} → BehindBy z s (upToDateToWrite z s) k reach → Behind z s (writes k item value reach)
 
 -- 7: "full: some reachable server is up to date, none such has a free place"
 pub record NoRoom (z : Size) (s : State) (k reach : ℕ) : Type 0 where
@@ -48,8 +48,8 @@ pub record NoRoom (z : Size) (s : State) (k reach : ℕ) : Type 0 where
   pub server : ℕ
   pub below : server < z .n
   pub reachable : reaches reach server ≡ true
-  pub upToDate : upToDateToWrite (z .n) session (s .vector server) ≡ true
-  pub full : (i : ℕ) → i < z .n → reaches reach i ≡ true → upToDateToWrite (z .n) session (s .vector i) ≡ true → hasRoom z s i ≡ false
+  pub upToDate : upToDateToWrite z s session server ≡ true
+  pub full : (i : ℕ) → i < z .n → reaches reach i ≡ true → upToDateToWrite z s session i ≡ true → z .l ≤ length (s .log i)
 
 pub data Full (z : Size) (s : State) : Op → Type 0 where
   writes-full : {k item value reach : ℕ} → NoRoom z s k reach → Full z s (writes k item value reach)

@@ -1,7 +1,6 @@
 -- What a step does, in six cases. Every later fact about steps goes by these cases, and none opens the rules again.
 -- Assumes nothing.
 use Prim.Native.Nat.{ℕ, _≤_}
-use mathlib.Core.Bool.{_&&_}
 use mathlib.Core.Option.{Option, none, some}
 use mathlib.Core.Path.{_≡_, refl}
 use native.Mathlib.Omega.{arith}
@@ -13,16 +12,16 @@ use Rattle.tables.specs.Size.{Size}
 use Rattle.tables.specs.State.{Session, Slot, closed, opened, State, withSlot}
 use Rattle.tables.specs.SoundState.{SoundState}
 use Rattle.steps.specs.Step.{Op, bad, opens, closes, reads, writes, exchanges, Answer, refused, done}
-use Rattle.steps.specs.Choice.{upToDateToRead, upToDateToWrite, startOf}
+use Rattle.steps.specs.Choice.{upToDateToRead, startOf, mayWriteTo}
 use Rattle.steps.specs.ChoiceLaws.{Chosen, choose-some, starts}
-use Rattle.steps.specs.Rules.{Outcome, refuse, newSession, opening, closing, readAnswer, afterRead, readFrom, reading, newWrite, accepted, writeAnswer, writeTo, hasRoom, writing, goingOver, sent, received, exchangeAnswer, exchanging, obeyed}
+use Rattle.steps.specs.Rules.{Outcome, refuse, newSession, opening, closing, readAnswer, afterRead, readFrom, reading, newWrite, accepted, writeAnswer, writeTo, writing, goingOver, sent, received, exchangeAnswer, exchanging, obeyed}
 
 -- The server that a read, or a write, of the session is sent to.
 abbrev pub ChosenToRead : Size → State → Session → ℕ → ℕ → Type 0
-ChosenToRead z s q reach = Chosen (z .n) (startOf q) reach (λ i. upToDateToRead (z .n) q (s .vector i))
+ChosenToRead z s q reach = Chosen (z .n) (startOf q) reach (upToDateToRead z s q)
 
 abbrev pub ChosenToWrite : Size → State → Session → ℕ → ℕ → Type 0
-ChosenToWrite z s q reach = Chosen (z .n) (startOf q) reach (λ i. upToDateToWrite (z .n) q (s .vector i) && hasRoom z s i)
+ChosenToWrite z s q reach = Chosen (z .n) (startOf q) reach (mayWriteTo z s q)
 
 pub data Effect (z : Size) (s : State) : Op → Answer → State → Type 0 where
   was-refused : {o : Op} (code : ℕ) → 2 ≤ code → Effect z s o (refused code) s
@@ -67,7 +66,7 @@ module _ (z : Size) (s : State) (some-server : 1 ≤ z .n) (sound : SoundState z
   reading-effect k item reach closed e = refusal (reads k item reach) _ (omega arith)
   reading-effect k item reach (opened q) e =
       cond-elim (Done (reads k item reach)) (eqb reach 0) (λ t. refusal (reads k item reach) _ (omega arith)) (λ t.
-      readFrom-effect k item reach q e _ (λ i f. choose-some (z .n) (startOf q) reach (λ j. upToDateToRead (z .n) q (s .vector j)) i (starts some-server sound k q e) f))
+      readFrom-effect k item reach q e _ (λ i f. choose-some (z .n) (startOf q) reach (upToDateToRead z s q) i (starts some-server sound k q e) f))
 
   writeTo-effect : (k item value reach : ℕ) (q : Session) → s .slot k ≡ opened q → (found roomy : Option ℕ)
       → ((i : ℕ) → roomy ≡ some i → ChosenToWrite z s q reach i)
@@ -83,7 +82,7 @@ module _ (z : Size) (s : State) (some-server : 1 ≤ z .n) (sound : SoundState z
   writing-effect k item value reach (opened q) e =
       cond-elim (Done (writes k item value reach)) (eqb reach 0) (λ t. refusal (writes k item value reach) _ (omega arith)) (λ t.
       writeTo-effect k item value reach q e _ _ (λ i f.
-      choose-some (z .n) (startOf q) reach (λ j. upToDateToWrite (z .n) q (s .vector j) && hasRoom z s j) i (starts some-server sound k q e) f))
+      choose-some (z .n) (startOf q) reach (mayWriteTo z s q) i (starts some-server sound k q e) f))
 
   exchanging-effect : (source target most : ℕ) → Done (exchanges source target most) (exchanging z s source target most)
   unfolding exchanging

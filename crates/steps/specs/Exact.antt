@@ -67,18 +67,18 @@ full-exactly t x = given-exactly t x 7 (omega arith)
 -- table is sound, the arguments are in range, and the slot is open.
 module _ (t : List ℕ) (x : Step) (is-sound : sound t ≡ true) (k reach : ℕ) (q : Session) (is-open : decode (sizeOf t) t .slot k ≡ opened q) where
   -- Some server is reachable, and none that is passes the check.
-  abbrev pub NonePasses : (ℕ → Session → (ℕ → ℕ) → Bool) → Type 0
-  NonePasses upToDate =
+  abbrev pub NonePasses : (Size → State → Session → ℕ → Bool) → Type 0
+  NonePasses passes =
       Reachable (sizeOf t .n) reach
-      × ((i : ℕ) → i < sizeOf t .n → reaches reach i ≡ true → upToDate (sizeOf t .n) q (decode (sizeOf t) t .vector i) ≡ false)
+      × ((i : ℕ) → i < sizeOf t .n → reaches reach i ≡ true → passes (sizeOf t) (decode (sizeOf t) t) q i ≡ false)
 
-  none-passes : (upToDate : ℕ → Session → (ℕ → ℕ) → Bool) → reachInRange (sizeOf t .n) reach ≡ true
-      → BehindBy (sizeOf t) (decode (sizeOf t) t) upToDate k reach ↔ NonePasses upToDate
-  none-passes upToDate range = (
+  none-passes : (passes : Size → State → Session → ℕ → Bool) → reachInRange (sizeOf t .n) reach ≡ true
+      → BehindBy (sizeOf t) (decode (sizeOf t) t) (passes (sizeOf t) (decode (sizeOf t) t)) k reach ↔ NonePasses passes
+  none-passes passes range = (
     λ b.
         let same : b .session ≡ q = one-session (b .is) in (
           reach-some (sizeOf t .n) reach range (b .reached),
-          λ i l r. subst (λ (p : Session). upToDate (sizeOf t .n) p (decode (sizeOf t) t .vector i) ≡ false) same (b .stale i l r),
+          λ i l r. subst (λ (p : Session). passes (sizeOf t) (decode (sizeOf t) t) p i ≡ false) same (b .stale i l r),
         ),
     λ n.
         record {
@@ -99,7 +99,7 @@ module _ (t : List ℕ) (x : Step) (is-sound : sound t ≡ true) (k reach : ℕ)
         λ n. behind-exactly t x .1 (is-sound, subst (Behind (sizeOf t) (decode (sizeOf t) t)) (sym e) (reads-behind (none-passes upToDateToRead (range .2) .1 n))),
       )
     where
-      unread : Behind (sizeOf t) (decode (sizeOf t) t) (reads k item reach) → BehindBy (sizeOf t) (decode (sizeOf t) t) upToDateToRead k reach
+      unread : Behind (sizeOf t) (decode (sizeOf t) t) (reads k item reach) → BehindBy (sizeOf t) (decode (sizeOf t) t) (upToDateToRead (sizeOf t) (decode (sizeOf t) t)) k reach
       unread (reads-behind b) = b
 
   pub write-behind-exactly : (item value : ℕ) → asked (sizeOf t) x ≡ writes k item value reach
@@ -110,7 +110,7 @@ module _ (t : List ℕ) (x : Step) (is-sound : sound t ≡ true) (k reach : ℕ)
         λ n. behind-exactly t x .1 (is-sound, subst (Behind (sizeOf t) (decode (sizeOf t) t)) (sym e) (writes-behind (none-passes upToDateToWrite (range .2) .1 n))),
       )
     where
-      unwritten : Behind (sizeOf t) (decode (sizeOf t) t) (writes k item value reach) → BehindBy (sizeOf t) (decode (sizeOf t) t) upToDateToWrite k reach
+      unwritten : Behind (sizeOf t) (decode (sizeOf t) t) (writes k item value reach) → BehindBy (sizeOf t) (decode (sizeOf t) t) (upToDateToWrite (sizeOf t) (decode (sizeOf t) t)) k reach
       unwritten (writes-behind b) = b
 
 -- ---- what accepted steps do

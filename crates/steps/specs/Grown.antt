@@ -23,7 +23,7 @@ use Rattle.tables.specs.Size.{Size, items}
 use Rattle.tables.specs.State.{State}
 use Rattle.tables.specs.SoundState.{SoundState}
 use Rattle.tables.specs.Growth.{Grows}
-use Rattle.steps.specs.Rules.{newWrite, hasRoom, goingOver, sent}
+use Rattle.steps.specs.Rules.{newWrite, goingOver, sent}
 
 -- ---- a write
 
@@ -49,17 +49,17 @@ module _ {z : Size} {s : State} (sound : SoundState z s) (i item value : ℕ) (s
       record { write = f .write; stored = f .stored; timed = omega (arith, f .timed, g .equal) }) (sound .attained i (g .at)))
       (greatest-attained (z .n) (s .vector i))
 
-  pub write-grows : hasRoom z s i ≡ true → item < items
+  pub write-grows : length (s .log i) < z .l → item < items
       → Grows
       z s i (newWrite z s i item value ∷ []) (s .log i ++ (newWrite z s i item value ∷ []))
       (upd (s .vector i) i (newWrite z s i item value .clock))
-  unfolding hasRoom newWrite
+  unfolding newWrite
   write-grows room inRange =
       let w = newWrite z s i item value in
       let one : (P : Write → Type 0) → P w → (x : Write) → In x (w ∷ []) → P x = λ P p x m. subst P (sym (in-one m)) p in
       record {
         server = server;
-        fits = omega (arith, ltb-true (length (s .log i)) (z .l) room, length-append (s .log i) (w ∷ []));
+        fits = omega (arith, room, length-append (s .log i) (w ∷ []));
         ordered = ascending-snoc w (sound .ascending i) new-last;
         old = λ x m. in-append-left (w ∷ []) m;
         new = λ x m. in-append-right (s .log i) m;

@@ -20,8 +20,8 @@ use Rattle.tables.specs.Layout.{header, vectorAt, countAt, logAt, slotWidth, sl
 use Rattle.tables.specs.Sound.{ruleA, ruleB, ruleC, ruleD, ruleE, slotSound, ruleF, soundAt, sound}
 use Rattle.tables.specs.Make.{fresh}
 use Rattle.steps.specs.Step.{Step, stepWords, Answer, answerWords, reachInRange, openInRange, closeInRange, readInRange, writeInRange, exchangeInRange, ifInRange, ofKind, asked, refused, done}
-use Rattle.steps.specs.Choice.{readYourWrites, monotonicReads, writesFollowReads, monotonicWrites, upToDateToRead, upToDateToWrite, reaches, startOf, next, onwards, around, choose}
-use Rattle.steps.specs.Rules.{refuse, newSession, opening, closing, readAnswer, afterRead, readFrom, reading, newWrite, afterWrite, accepted, writeAnswer, writeTo, hasRoom, writing, goingOver, sent, received, exchangeAnswer, exchanging, obeyed, rule}
+use Rattle.steps.specs.Choice.{readYourWrites, monotonicReads, writesFollowReads, monotonicWrites, upToDateToRead, upToDateToWrite, reaches, startOf, next, onwards, around, choose, hasRoom, upToDate, mayWriteTo}
+use Rattle.steps.specs.Rules.{refuse, newSession, opening, closing, readAnswer, afterRead, readFrom, reading, newWrite, afterWrite, accepted, writeAnswer, writeTo, writing, goingOver, sent, received, exchangeAnswer, exchanging, obeyed, rule}
 use Rattle.steps.specs.RunLaws.{run-fits, stepsOf-stepWords}
 use Rattle.steps.specs.Calls.{lengthsFit, run, written, step, onward, walk}
 
@@ -57,7 +57,7 @@ small = record { n = 2; l = 4; p = 1 }
 
 -- The rules give each row its answer.
 pub ten-rows : walk (fresh small) (map (λ r. r .asks) rows) .answers ≡ map (λ r. r .gets) rows
-unfolding keep first orElse blocks row part upd below all zeros implies dominates join greatest before same insert insertAll lastOn lacking follow inRange goesOn ordered ofOrigin upTo greatestClock greatestOf sameAll agrees spelled places entry entries within withVector withLog withSlot header vectorAt countAt logAt slotWidth slotAt size headWords slotWords encode sizeOf logPart slotPart sessionOf slotOf decode ruleA ruleB ruleC ruleD ruleE slotSound ruleF soundAt sound fresh reachInRange openInRange closeInRange readInRange writeInRange exchangeInRange ifInRange ofKind asked refused done readYourWrites monotonicReads writesFollowReads monotonicWrites upToDateToRead upToDateToWrite reaches startOf next onwards around choose refuse newSession opening closing readAnswer afterRead readFrom reading newWrite afterWrite accepted writeAnswer writeTo hasRoom writing goingOver sent received exchangeAnswer exchanging obeyed rule written step onward walk
+unfolding keep first orElse blocks row part upd below all zeros implies dominates join greatest before same insert insertAll lastOn lacking follow inRange goesOn ordered ofOrigin upTo greatestClock greatestOf sameAll agrees spelled places entry entries within withVector withLog withSlot header vectorAt countAt logAt slotWidth slotAt size headWords slotWords encode sizeOf logPart slotPart sessionOf slotOf decode ruleA ruleB ruleC ruleD ruleE slotSound ruleF soundAt sound fresh reachInRange openInRange closeInRange readInRange writeInRange exchangeInRange ifInRange ofKind asked refused done readYourWrites monotonicReads writesFollowReads monotonicWrites upToDate upToDateToRead upToDateToWrite hasRoom mayWriteTo reaches startOf next onwards around choose refuse newSession opening closing readAnswer afterRead readFrom reading newWrite afterWrite accepted writeAnswer writeTo writing goingOver sent received exchangeAnswer exchanging obeyed rule written step onward walk
 ten-rows = refl
 
 -- And so does the run on words, into any answer buffer of fifty words.

@@ -1,10 +1,10 @@
 -- The five steps on a state. Each is total: its outcome is the answer and the state, whatever is asked. The codes are tried in the
 -- order of 01, "Answer codes". Assumes nothing.
 use Prim.Native.Nat.{ℕ, suc, _-_, min}
-use mathlib.Core.Bool.{Bool, cond, _&&_}
+use mathlib.Core.Bool.{cond}
 use mathlib.Core.List.{List, [], _∷_, _++_}
 use mathlib.Core.Option.{Option, none, some}
-use lib.Dec.{ltb, eqb}
+use lib.Dec.{eqb}
 use lib.ListN.{length, take}
 use Rattle.words.specs.Lists.{upd}
 use Rattle.vectors.specs.Vector.{join, greatest}
@@ -13,7 +13,7 @@ use Rattle.logs.specs.Log.{insertAll, lastOn, lacking, follow}
 use Rattle.tables.specs.Size.{Size}
 use Rattle.tables.specs.State.{Session, Slot, closed, opened, State, withVector, withLog, withSlot}
 use Rattle.steps.specs.Step.{Step, Op, bad, opens, closes, reads, writes, exchanges, asked, Answer, refused, done}
-use Rattle.steps.specs.Choice.{upToDateToRead, upToDateToWrite, startOf, choose}
+use Rattle.steps.specs.Choice.{upToDateToRead, upToDateToWrite, startOf, choose, mayWriteTo}
 
 pub record Outcome : Type 0 where
   pub answer : Answer
@@ -61,7 +61,7 @@ readFrom s k item q (some i) =
 unfoldable pub reading : Size → State → ℕ → ℕ → ℕ → Slot → Outcome
 reading z s k item reach closed = refuse 3 s
 reading z s k item reach (opened q) =
-    let current = choose (z .n) (startOf q) reach (λ i. upToDateToRead (z .n) q (s .vector i)) in
+    let current = choose (z .n) (startOf q) reach (upToDateToRead z s q) in
     cond (eqb reach 0) (refuse 5 s) (readFrom s k item q current)
 
 -- ---- write
@@ -94,16 +94,12 @@ writeTo z s k item value q (some i) none = refuse 7 s
 writeTo z s k item value q (some i) (some j) =
     record { answer = writeAnswer j (newWrite z s j item value); state = accepted s k q j (newWrite z s j item value) }
 
--- 01, "Choice": "For a write it must also have a free place."
-unfoldable pub hasRoom : Size → State → ℕ → Bool
-hasRoom z s i = ltb (length (s .log i)) (z .l)
-
 -- Code 3, 5, and then the two searches.
 unfoldable pub writing : Size → State → ℕ → ℕ → ℕ → ℕ → Slot → Outcome
 writing z s k item value reach closed = refuse 3 s
 writing z s k item value reach (opened q) =
-    let current = choose (z .n) (startOf q) reach (λ i. upToDateToWrite (z .n) q (s .vector i)) in
-    let roomy = choose (z .n) (startOf q) reach (λ i. upToDateToWrite (z .n) q (s .vector i) && hasRoom z s i) in
+    let current = choose (z .n) (startOf q) reach (upToDateToWrite z s q) in
+    let roomy = choose (z .n) (startOf q) reach (mayWriteTo z s q) in
     cond (eqb reach 0) (refuse 5 s) (writeTo z s k item value q current roomy)
 
 -- ---- exchange

@@ -8,16 +8,16 @@ use borrow.Author.Tests.{eqb-true, eqb-false}
 use lib.Dec.{eqb}
 use Rattle.words.specs.Lists.{In, upd}
 use Rattle.words.specs.ListLaws.{upd-same}
-use Rattle.words.specs.TestLaws.{either, and-right}
+use Rattle.words.specs.TestLaws.{either}
 use Rattle.logs.specs.Write.{Write}
 use Rattle.tables.specs.Size.{Size, sums}
 use Rattle.tables.specs.State.{Session, closed, opened, State, withVector, withLog, withSlot}
 use Rattle.tables.specs.SoundState.{SoundState, SoundSession, SoundSlot}
 use Rattle.tables.specs.Growth.{Grows, vector-below-own, slot-above, slot-sound, grows-above, grows-keeps, grows-sound}
+use Rattle.steps.specs.ChoiceLaws.{may-room}
 use Rattle.steps.specs.Step.{Op, writes, Answer}
 use Rattle.steps.specs.StepLaws.{InRange}
-use Rattle.steps.specs.Choice.{upToDateToWrite}
-use Rattle.steps.specs.Rules.{newSession, afterRead, afterWrite, newWrite, hasRoom, accepted, received}
+use Rattle.steps.specs.Rules.{newSession, afterRead, afterWrite, newWrite, accepted, received}
 use Rattle.steps.specs.Effects.{Effect, was-refused, was-opened, was-closed, was-read, was-written, was-exchanged, ChosenToWrite}
 use Rattle.steps.specs.Figure1.{read-raises, read-leaves, read-chosen, read-uses, write-sets, write-leaves, write-reads, write-chosen, write-uses, new-chosen, new-unused, new-reads, new-writes}
 use Rattle.steps.specs.Grown.{write-grows, exchange-grows}
@@ -65,7 +65,7 @@ module _ {z : Size} {s : State} (sound : SoundState z s) where
       z s i (newWrite z s i item value ∷ []) (s .log i ++ (newWrite z s i item value ∷ []))
       (upd (s .vector i) i (newWrite z s i item value .clock))
   written-grows k item value reach q i range c =
-      write-grows sound i item value (c .server) (and-right (upToDateToWrite (z .n) q (s .vector i)) (hasRoom z s i) (c .passed)) (range .1)
+      write-grows sound i item value (c .server) (may-room z s q i (c .passed)) (range .1)
 
   written-sound : (k item value reach : ℕ) (q : Session) (i : ℕ) → InRange z (writes k item value reach)
       → s .slot k ≡ opened q → ChosenToWrite z s q reach i → SoundState z (accepted s k q i (newWrite z s i item value))

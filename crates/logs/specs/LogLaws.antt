@@ -18,7 +18,7 @@ use Rattle.logs.specs.WriteLaws.{SameKey, before-trans, before-total, be
 use Rattle.logs.specs.Log.{insert, insertAll, lastOn, lacking, follow}
 use Rattle.logs.specs.Ascending.{Ascending, ascending-nil, ascending-cons}
 use Rattle.logs.specs.AscendingLaws.{ascending-head, ascending-tail, keep-ascending}
-use Rattle.logs.specs.Witness.{Witness}
+use Rattle.logs.specs.Witness.{Witness, LastOn}
 
 -- ---- insertion
 
@@ -121,12 +121,6 @@ take-before (suc k) (ascending-cons {w = y} {ws = ys} head rest) w x h m b =
     (λ h′. take-before k rest w x h′ m′ b) (in-cons h))) (in-cons m)
 
 -- ---- the last write on an item
-
--- Of the writes on the item this one comes last.
-pub record LastOn (item : ℕ) (g : List Write) (w : Write) : Type 0 where
-  pub stored : In w g
-  pub about : w .item ≡ item
-  pub last : (x : Write) → In x g → x .item ≡ item → (x ≡ w) ⊎ (before x w ≡ true)
 
 pub lastOn-none : (item : ℕ) (g : List Write) → lastOn item g ≡ none → (x : Write) → In x g → x .item ≡ item → ⊥
 unfolding lastOn orElse

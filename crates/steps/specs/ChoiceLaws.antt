@@ -1,4 +1,5 @@
 -- What holds of the search order and of reach. Assumes nothing.
+use Rattle.steps.specs.Chosen.{Chosen, Reachable}
 use Prim.Native.Nat.{ℕ, zero, suc, _+_, _-_, _/_, _%_, _^_, _<_, _≤_}
 use mathlib.Core.Bool.{Bool, true, false, _&&_}
 use mathlib.Core.List.{List, [], _∷_, _++_}
@@ -127,16 +128,6 @@ module _ (z : Size) (s : State) (q : Session) (i : ℕ) where
 
 -- ---- what the search found
 
--- The server chosen is reachable and passes, and those before it in the search order are not reachable or fail.
-pub record Chosen (n start reach : ℕ) (passes : ℕ → Bool) (i : ℕ) : Type 0 where
-  pub earlier : List ℕ
-  pub untried : List ℕ
-  pub order : around n start ≡ earlier ++ i ∷ untried
-  pub server : i < n
-  pub reachable : reaches reach i ≡ true
-  pub passed : passes i ≡ true
-  pub failed : (j : ℕ) → In j earlier → (reaches reach j && passes j) ≡ false
-
 pub choose-some : (n start reach : ℕ) (passes : ℕ → Bool) (i : ℕ) → start < n → choose n start reach passes ≡ some i → Chosen n start reach passes i
 unfolding choose
 choose-some n start reach passes i h e =
@@ -161,12 +152,6 @@ choose-none n start reach passes h e i l r =
 
 -- ---- reach
 
--- A reach set that is in range and not 0 has a server in it.
-pub record Reachable (n reach : ℕ) : Type 0 where
-  pub server : ℕ
-  pub below : server < n
-  pub reached : reaches reach server ≡ true
-
 -- With reach 0 no server is reachable.
 pub reach-none : (n : ℕ) → Reachable n 0 → ⊥
 unfolding reaches
@@ -174,6 +159,7 @@ reach-none n f =
     let e : 0 / 2 ^ f .server ≡ 0 = zero-div (2 ^ f .server) in
     true-not-false (f .reached) (ap (λ r. eqb (r % 2) 1) e)
 
+-- A reach set that is in range and not 0 has a server in it.
 pub reach-some : (n reach : ℕ) → reachInRange n reach ≡ true → (reach ≡ 0 → ⊥) → Reachable n reach
 unfolding reachInRange reaches
 reach-some zero reach e h = absurd (h (sym (div-one reach) ∙ eqb-true (reach / 2 ^ 0) 0 e))

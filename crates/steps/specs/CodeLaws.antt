@@ -1,4 +1,5 @@
 -- The rules give each code exactly on its condition. Assumes nothing.
+use Rattle.steps.specs.Chosen.{Chosen}
 use Prim.Native.Nat.{ℕ, zero, suc, _<_, _≤_}
 use mathlib.Core.Bool.{Bool, true, false, _&&_}
 use mathlib.Core.Logic.{_↔_, ⊎-elim}
@@ -18,7 +19,7 @@ use Rattle.tables.specs.State.{Session, Slot, closed, opened, State}
 use Rattle.tables.specs.SoundState.{SoundState}
 use Rattle.steps.specs.Step.{Op, bad, opens, closes, reads, writes, exchanges, refused, done}
 use Rattle.steps.specs.Choice.{upToDateToRead, upToDateToWrite, reaches, startOf, choose, around, mayWriteTo}
-use Rattle.steps.specs.ChoiceLaws.{Chosen, choose-some, choose-none, around-below, starts, may-current, may-room, may-write}
+use Rattle.steps.specs.ChoiceLaws.{choose-some, choose-none, around-below, starts, may-current, may-room, may-write}
 use Rattle.steps.specs.Rules.{Outcome, refuse, opening, closing, readAnswer, readFrom, reading, writeAnswer, writeTo, writing, exchangeAnswer, exchanging, obeyed}
 use Rattle.steps.specs.Codes.{OutOfRange, out-of-range, WrongSlot, opens-open, closes-closed, reads-closed, writes-closed, ToItself, to-itself, NoneReachable, reads-none, writes-none, Behind, reads-behind, writes-behind, Full, writes-full, Given, NoRoom}
 

@@ -1,5 +1,6 @@
 -- What an accepted read, write and exchange did: who was chosen, what was answered, and what every vector and log then is.
 -- Assumes nothing.
+use Rattle.steps.specs.Chosen.{ChosenToRead, ChosenToWrite}
 use Prim.Native.Nat.{ℕ, _+_, _-_, min}
 use mathlib.Core.Bool.{true}
 use mathlib.Core.List.{List, [], _∷_, _++_}
@@ -14,7 +15,6 @@ use Rattle.tables.specs.Size.{Size}
 use Rattle.tables.specs.State.{Session, opened, State, withSlot}
 use Rattle.steps.specs.Step.{Answer}
 use Rattle.steps.specs.Rules.{readAnswer, afterRead, newWrite, accepted, writeAnswer, received, exchangeAnswer}
-use Rattle.steps.specs.Effects.{ChosenToRead, ChosenToWrite}
 
 -- A read of the item in slot k, over the servers of `reach`. `chosen`: the first reachable server in search order that is up to date.
 -- `after` is Figure 1 of 002: the read-vector becomes the component maximum, and nothing else changes but the last-used server.

@@ -1,5 +1,6 @@
--- What a step does, in six cases. Every later fact about steps goes by these cases, and none opens the rules again.
+-- What a step does, in six cases. Later facts about what steps leave go by these cases.
 -- Assumes nothing.
+use Rattle.steps.specs.Chosen.{ChosenToRead, ChosenToWrite, Chosen}
 use Prim.Native.Nat.{ℕ, _≤_}
 use mathlib.Core.Option.{Option, none, some}
 use mathlib.Core.Path.{_≡_, refl}
@@ -13,15 +14,8 @@ use Rattle.tables.specs.State.{Session, Slot, closed, opened, State, withSlot}
 use Rattle.tables.specs.SoundState.{SoundState}
 use Rattle.steps.specs.Step.{Op, bad, opens, closes, reads, writes, exchanges, Answer, refused, done}
 use Rattle.steps.specs.Choice.{upToDateToRead, startOf, mayWriteTo}
-use Rattle.steps.specs.ChoiceLaws.{Chosen, choose-some, starts}
+use Rattle.steps.specs.ChoiceLaws.{choose-some, starts}
 use Rattle.steps.specs.Rules.{Outcome, refuse, newSession, opening, closing, readAnswer, afterRead, readFrom, reading, newWrite, accepted, writeAnswer, writeTo, writing, goingOver, sent, received, exchangeAnswer, exchanging, obeyed}
-
--- The server that a read, or a write, of the session is sent to.
-abbrev pub ChosenToRead : Size → State → Session → ℕ → ℕ → Type 0
-ChosenToRead z s q reach = Chosen (z .n) (startOf q) reach (upToDateToRead z s q)
-
-abbrev pub ChosenToWrite : Size → State → Session → ℕ → ℕ → Type 0
-ChosenToWrite z s q reach = Chosen (z .n) (startOf q) reach (mayWriteTo z s q)
 
 pub data Effect (z : Size) (s : State) : Op → Answer → State → Type 0 where
   was-refused : {o : Op} (code : ℕ) → 2 ≤ code → Effect z s o (refused code) s

@@ -1,4 +1,5 @@
 -- Demand 2, of the step on words that the delivered calls promise. Assumes nothing.
+use Rattle.steps.specs.Chosen.{Reachable}
 use Prim.Native.Nat.{ℕ, _<_, _≤_}
 use mathlib.Core.Bool.{Bool, true, false}
 use mathlib.Core.List.{List}
@@ -17,7 +18,7 @@ use Rattle.tables.specs.MeaningLaws.{sound-means, means-state}
 use Rattle.steps.specs.Step.{Step, Op, reads, writes, exchanges, reachInRange, asked, Answer, refused}
 use Rattle.steps.specs.StepLaws.{InRange, asked-inRange}
 use Rattle.steps.specs.Choice.{reaches, upToDateToRead, upToDateToWrite}
-use Rattle.steps.specs.ChoiceLaws.{Reachable, reach-some, reach-none}
+use Rattle.steps.specs.ChoiceLaws.{reach-some, reach-none}
 use Rattle.steps.specs.Rules.{rule}
 use Rattle.steps.specs.Effects.{Effect}
 use Rattle.steps.specs.Codes.{Given, NoneReachable, BehindBy, Behind, reads-behind, writes-behind, Full}

@@ -1,6 +1,7 @@
 pub mod Step
 pub mod StepLaws
 pub mod Choice
+pub mod Chosen
 pub mod ChoiceLaws
 pub mod Rules
 pub mod Figure1

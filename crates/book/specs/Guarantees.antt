@@ -1,27 +1,29 @@
--- Demand 3: the four session guarantees, as 002, section 3, words them, for every schedule from a fresh table, of the writes that the
--- table's words store. Assumes nothing.
+-- Demand 3: the four session guarantees, as 002, section 3, words them, for every schedule, of the writes that the table's words
+-- store. Assumes nothing.
 use Prim.Native.Nat.{ℕ}
 use mathlib.Core.Bool.{true}
 use mathlib.Core.List.{List, [], _∷_, _++_}
 use mathlib.Core.Path.{_≡_, sym, _∙_, ap, subst}
 use Rattle.logs.specs.Write.{Write, before}
-use Rattle.tables.specs.Size.{Size, within}
-use Rattle.tables.specs.State.{State, empty}
-use Rattle.tables.specs.Make.{fresh}
+use Rattle.tables.specs.Size.{Size}
+use Rattle.tables.specs.State.{State}
+use Rattle.tables.specs.Layout.{sizeOf, decode}
+use Rattle.tables.specs.Sound.{sound}
 use Rattle.tables.specs.Meaning.{Means}
-use Rattle.tables.specs.MeaningLaws.{fresh-means}
+use Rattle.tables.specs.MeaningLaws.{sound-means}
 use Rattle.steps.specs.Step.{Step}
 use Rattle.steps.specs.Choice.{readYourWrites, monotonicReads, writesFollowReads, monotonicWrites}
-use Rattle.book.specs.Guarantee.{Stores, DependsOn, after, Reads, Writes, Lasts, Chose}
+use Rattle.book.specs.Terms.{Stores, DependsOn, after, Reads, Writes, Lasts, Chose}
 use Rattle.book.specs.Propagation.{Precedes}
 use Rattle.book.specs.Moments.{stateAfter, after-append, stored, stores, means-after, kept-after, precedes-after}
 use Rattle.book.specs.Remembering.{checked-reads, checked-writes, read-remembers, write-remembers, read-after, write-after, read-served, write-served}
 
--- Any schedule from a fresh table, with two of its steps marked: `pre`, the step x, `mid`, the step y, and `post`.
-module _ (z : Size) (limits : within z ≡ true) (pre : List Step) (x : Step) (mid : List Step) (y : Step) (post : List Step) where
+-- Any schedule from a sound table, and so from a fresh one (`fresh-sound`), with two of its steps marked: `pre`, the step x, `mid`, the
+-- step y, and `post`.
+module _ (t₀ : List ℕ) (is-sound : sound t₀ ≡ true) (pre : List Step) (x : Step) (mid : List Step) (y : Step) (post : List Step) where
   -- The table before x, right after it, before y, right after it, and at any later moment.
   abbrev pub t₁ : List ℕ
-  t₁ = after (fresh z) pre
+  t₁ = after t₀ pre
 
   abbrev pub t₂ : List ℕ
   t₂ = after t₁ (x ∷ [])
@@ -36,14 +38,17 @@ module _ (z : Size) (limits : within z ≡ true) (pre : List Step) (x : Step) (m
   t₅ = after t₄ post
 
   -- They are moments of one schedule.
-  pub one-schedule : after (fresh z) (pre ++ (x ∷ mid) ++ (y ∷ post)) ≡ t₅
+  pub one-schedule : after t₀ (pre ++ (x ∷ mid) ++ (y ∷ post)) ≡ t₅
   one-schedule =
-      after-append (fresh z) (pre ++ (x ∷ mid)) (y ∷ post)
-      ∙ (ap (λ t. after t (y ∷ post)) (after-append (fresh z) pre (x ∷ mid) ∙ after-append t₁ (x ∷ []) mid) ∙ after-append t₃ (y ∷ []) post)
+      after-append t₀ (pre ++ (x ∷ mid)) (y ∷ post)
+      ∙ (ap (λ t. after t (y ∷ post)) (after-append t₀ pre (x ∷ mid) ∙ after-append t₁ (x ∷ []) mid) ∙ after-append t₃ (y ∷ []) post)
 
   -- The states that they mean.
+  abbrev z : Size
+  z = sizeOf t₀
+
   abbrev s₁ : State
-  s₁ = stateAfter z empty pre
+  s₁ = stateAfter z (decode z t₀) pre
 
   abbrev s₂ : State
   s₂ = stateAfter z s₁ (x ∷ [])
@@ -58,7 +63,7 @@ module _ (z : Size) (limits : within z ≡ true) (pre : List Step) (x : Step) (m
   s₅ = stateAfter z s₄ post
 
   m₁ : Means z s₁ t₁
-  m₁ = means-after (fresh-means z limits) pre
+  m₁ = means-after (sound-means t₀ is-sound) pre
 
   m₂ : Means z s₂ t₂
   m₂ = means-after m₁ (x ∷ [])
@@ -115,9 +120,8 @@ module _ (z : Size) (limits : within z ≡ true) (pre : List Step) (x : Step) (m
       (write-after m₂ k mid lasts w₁ (write-remembers m₁ x k w₁ first)))
 
 -- No server ever loses a write: what is stored at one moment is stored at every later one.
-pub never-lost : (z : Size) → within z ≡ true → (pre post : List Step) (i : ℕ) (w : Write) → Stores (after (fresh z) pre) i w
-    → Stores (after (fresh z) (pre ++ post)) i w
-never-lost z limits pre post i w m =
-    let m₁ : Means z (stateAfter z empty pre) (after (fresh z) pre) = means-after (fresh-means z limits) pre in
-    subst (λ (t : List ℕ). Stores t i w) (sym (after-append (fresh z) pre post))
+pub never-lost : (t₀ : List ℕ) → sound t₀ ≡ true → (pre post : List Step) (i : ℕ) (w : Write) → Stores (after t₀ pre) i w → Stores (after t₀ (pre ++ post)) i w
+never-lost t₀ is-sound pre post i w m =
+    let m₁ = means-after (sound-means t₀ is-sound) pre in
+    subst (λ (t : List ℕ). Stores t i w) (sym (after-append t₀ pre post))
     (stores (means-after m₁ post) i w (kept-after m₁ post i w (stored m₁ i w m)))

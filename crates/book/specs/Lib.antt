@@ -9,7 +9,7 @@ pub mod Simulation
 pub mod Schedule
 pub mod Session
 pub mod Propagation
-pub mod Guarantee
+pub mod Terms
 pub mod Moments
 pub mod Accepted
 pub mod Remembering

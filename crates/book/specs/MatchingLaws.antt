@@ -25,7 +25,7 @@ use Rattle.tables.specs.State.{Session, State}
 use Rattle.tables.specs.SoundState.{SoundState}
 use Rattle.steps.specs.Choice.{upToDateToRead, upToDateToWrite, readYourWrites, monotonicReads, writesFollowReads, monotonicWrites, startOf, choose, upToDate, mayWriteTo, hasRoom}
 use Rattle.steps.specs.Rules.{newWrite, goingOver, sent}
-use Rattle.steps.specs.Grown.{length-sent}
+use Rattle.steps.specs.Arrivals.{length-sent}
 use Rattle.book.specs.Book.{BookSession, Book, held, includes, mayRead, mayWrite, latestClock, missing, bookNewWrite, bookSent, included, hasPlace, freePlaces}
 use Rattle.book.specs.BookLaws.{SameMembers, includes-at, includes-make, in-missing, missing-not, missing-in, latestClock-above, latestClock-attained}
 use Rattle.book.specs.LeastLaws.{leastFirst-take}

@@ -15,7 +15,7 @@ use Rattle.steps.specs.Rules.{rule}
 use Rattle.steps.specs.SoundKept.{effect-keeps}
 use Rattle.steps.specs.Calls.{onward, walk}
 use Rattle.steps.specs.CallLaws.{step-effect, step-answer, means-next, walk-append}
-use Rattle.book.specs.Guarantee.{database, Stores, after, Lasts}
+use Rattle.book.specs.Terms.{database, Stores, after, Lasts}
 use Rattle.book.specs.Session.{Still, later-refl, later-trans, effect-still}
 use Rattle.book.specs.Propagation.{Precedes, effect-precedes}
 

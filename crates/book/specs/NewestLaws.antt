@@ -12,11 +12,12 @@ use Rattle.words.specs.Lists.{In, here, there}
 use Rattle.words.specs.ListLaws.{in-nil}
 use Rattle.words.specs.TestLaws.{true-not-false, cond-elim}
 use Rattle.words.specs.CaseLaws.{each}
+use Rattle.logs.specs.Witness.{LastOn}
 use Rattle.logs.specs.WriteLaws.{not-before-trans, not-before-self, not-before-back}
 use Rattle.logs.specs.Write.{Write, before}
 use Rattle.logs.specs.Ascending.{Ascending}
 use Rattle.logs.specs.Log.{lastOn}
-use Rattle.logs.specs.LogLaws.{LastOn, lastOn-some, lastOn-none}
+use Rattle.logs.specs.LogLaws.{lastOn-some, lastOn-none}
 use Rattle.book.specs.Book.{later, newestOn}
 use Rattle.book.specs.BookLaws.{SameMembers}
 

@@ -3,22 +3,26 @@
 use Prim.Native.Nat.{ℕ, _<_}
 use mathlib.Core.Bool.{true}
 use mathlib.Core.List.{List, [], _∷_, _++_}
-use mathlib.Core.Logic.{⊎-elim}
-use mathlib.Core.Path.{_≡_, refl, sym, subst}
+use mathlib.Core.Logic.{⊎-elim, _⊎_, inl, inr}
+use mathlib.Core.Path.{_≡_, refl, sym, subst, ap, _∙_, subst₂}
 use native.Mathlib.Omega.{arith}
+use borrow.Author.Tests.{eqb-true, eqb-false}
+use lib.Dec.{eqb}
+use Rattle.words.specs.TestLaws.{either}
 use Rattle.words.specs.Lists.{In, here, upd}
-use Rattle.words.specs.ListLaws.{in-one, in-append-left, in-append-right, in-append-cases, upd-same, upd-elim}
+use Rattle.words.specs.ListLaws.{in-one, in-append-left, in-append-right, in-append-cases, upd-elim}
 use Rattle.logs.specs.Write.{Write, before}
 use Rattle.logs.specs.Log.{insertAll}
 use Rattle.logs.specs.LogLaws.{in-insertAll, insertAll-old}
 use Rattle.tables.specs.Size.{Size}
-use Rattle.tables.specs.State.{Session, State, withVector, withLog, withSlot}
+use Rattle.tables.specs.State.{State, withVector, withLog, withSlot}
 use Rattle.tables.specs.SoundState.{SoundState}
+use Rattle.steps.specs.Done.{WriteDone}
 use Rattle.steps.specs.Step.{Op, Answer}
 use Rattle.steps.specs.StepLaws.{InRange}
 use Rattle.steps.specs.Rules.{newWrite, accepted, sent, received}
 use Rattle.steps.specs.Effects.{Effect, was-refused, was-opened, was-closed, was-read, was-written, was-exchanged}
-use Rattle.steps.specs.Grown.{new-clock, new-last, sent-from, sent-after}
+use Rattle.steps.specs.Arrivals.{new-clock, sent-from, sent-after}
 use Rattle.steps.specs.SoundKept.{effect-keeps}
 
 -- w₂ comes behind w₁ in write order, and no server stores w₂ without w₁.
@@ -26,6 +30,9 @@ pub record Precedes (s : State) (w₁ w₂ : Write) : Type 0 where
   pub ordered : before w₁ w₂ ≡ true
   pub made : In w₂ (s .log (w₂ .origin))
   pub along : (i : ℕ) → In w₂ (s .log i) → In w₁ (s .log i)
+
+same-or-not : (a b : ℕ) → (a ≡ b) ⊎ (a ≡ b → ⊥)
+same-or-not a b = ⊎-elim (λ e. inl (eqb-true a b e)) (λ e. inr (eqb-false a b e)) (either (eqb a b))
 
 module _ {z : Size} {s : State} (sound : SoundState z s) where
   -- A new write is nowhere yet.
@@ -35,18 +42,28 @@ module _ {z : Size} {s : State} (sound : SoundState z s) where
       absurd (omega (arith, new-clock sound j item value h (newWrite z s j item value) (sound .home i (newWrite z s j item value) m)))
 
   -- What a server holds precedes the write that it accepts.
-  pub accepted-precedes : (k : ℕ) (q : Session) (j item value : ℕ) → j < z .n → (w₁ : Write) → In w₁ (s .log j)
-      → Precedes (accepted s k q j (newWrite z s j item value)) w₁ (newWrite z s j item value)
-  unfolding accepted withSlot withVector withLog newWrite
-  accepted-precedes k q j item value h w₁ m =
-      let w₂ = newWrite z s j item value in
+  pub accepted-precedes : {after : State} {k item value reach : ℕ} {r : Answer} (d : WriteDone z s k item value reach r after)
+      → (w₁ : Write) → In w₁ (s .log (d .server)) → Precedes after w₁ (d .write)
+  unfolding newWrite
+  accepted-precedes {after} {item = item} {value = value} d w₁ m =
+      let j = d .server in
+      let w₂ = d .write in
       record {
-        ordered = new-last sound j item value h w₁ m;
-        made = subst (λ (g : List Write). In w₂ g) (sym (upd-same (s .log) j (s .log j ++ (w₂ ∷ [])) j refl)) (in-append-right (s .log j) (here refl));
-        along =
-            λ i. upd-elim (λ (g : List Write). In w₂ g → In w₁ g) (s .log) j (s .log j ++ (w₂ ∷ [])) i (λ e m′. in-append-left (w₂ ∷ []) m)
-            (λ e m′. new-nowhere j item value h i m′);
+        ordered = d .last w₁ m;
+        made = subst (λ (i : ℕ). In w₂ (after .log i)) (sym (ap (λ w. w .origin) (d .write-is)))
+            (subst (λ (g : List Write). In w₂ g) (sym (d .stored)) (in-append-right (s .log j) (here refl)));
+        along = λ i m′. at-server i (same-or-not i (d .server)) m′;
       }
+    where
+      new-is : record { origin = d .server; clock = d .clock; item = item; value = value } ≡ newWrite z s (d .server) item value
+      new-is = ap (λ (c : ℕ). record { origin = d .server; clock = c; item = item; value = value }) (d .clocked)
+
+      at-server : (i : ℕ) → (i ≡ d .server) ⊎ (i ≡ d .server → ⊥) → In (d .write) (after .log i) → In w₁ (after .log i)
+      at-server i (inl e) l =
+          subst (λ (g : List Write). In w₁ g) (sym (ap (after .log) e ∙ d .stored)) (in-append-left (d .write ∷ []) m)
+      at-server i (inr e) l =
+          new-nowhere (d .server) item value (d .chosen .server) i
+          (subst₂ (λ (w : Write) (g : List Write). In w g) (d .write-is ∙ new-is) (d .other-logs i e) l)
 
   module _ (w₁ w₂ : Write) (precedes : Precedes s w₁ w₂) where
     along-written : (j item value : ℕ) → j < z .n → (i : ℕ)

@@ -2,27 +2,28 @@
 use Prim.Native.Nat.{ℕ, _≤_}
 use mathlib.Core.Bool.{Bool, true}
 use mathlib.Core.List.{List}
-use mathlib.Core.Path.{_≡_, refl, sym, _∙_, ap, subst, subst₂}
+use mathlib.Core.Path.{_≡_, refl, sym, _∙_, ap, subst}
 use native.Mathlib.Omega.{arith}
 use Rattle.words.specs.Lists.{In, here}
-use Rattle.words.specs.ListLaws.{in-append-right, upd-same}
+use Rattle.words.specs.ListLaws.{in-append-right}
 use Rattle.words.specs.Tests.{implies}
 use Rattle.words.specs.TestLaws.{and-left, and-right, implies-use}
 use Rattle.vectors.specs.Vector.{dominates}
-use Rattle.vectors.specs.VectorLaws.{dominates-at, join-right}
+use Rattle.vectors.specs.VectorLaws.{dominates-at}
 use Rattle.logs.specs.Write.{Write}
 use Rattle.tables.specs.Size.{Size}
-use Rattle.tables.specs.State.{Session, opened, State, withVector, withLog, withSlot}
+use Rattle.tables.specs.State.{Session, opened, State}
 use Rattle.tables.specs.SoundState.{SoundState}
 use Rattle.tables.specs.Meaning.{Means}
 use Rattle.tables.specs.MeaningLaws.{means-state}
+use Rattle.steps.specs.Calls.{step}
 use Rattle.steps.specs.ChoiceLaws.{may-current}
 use Rattle.steps.specs.Step.{Step}
 use Rattle.steps.specs.Choice.{readYourWrites, monotonicReads, writesFollowReads, monotonicWrites, upToDateToRead, upToDateToWrite, upToDate}
-use Rattle.steps.specs.Rules.{newWrite, afterRead, afterWrite, accepted, rule}
+use Rattle.steps.specs.Rules.{rule}
 use Rattle.steps.specs.Done.{ReadDone, WriteDone}
 use Rattle.book.specs.Book.{relevant}
-use Rattle.book.specs.Guarantee.{database, Stores, DependsOn, Reads, Writes, Lasts, Chose}
+use Rattle.book.specs.Terms.{database, Stores, DependsOn, Reads, Writes, Lasts, Chose}
 use Rattle.book.specs.Session.{Still, Later}
 use Rattle.book.specs.Propagation.{Precedes, accepted-precedes}
 use Rattle.book.specs.Moments.{stateAfter, stored, stores, kept-after, still-after}
@@ -66,31 +67,29 @@ pub record Remembers (s : State) (k : ℕ) (vector : Session → ℕ → ℕ) (w
 module _ {z : Size} {s : State} {t : List ℕ} (means : Means z s t) (x : Step) (k : ℕ) where
   -- After a read the read-vector covers all that the server held.
   pub read-remembers : (i : ℕ) → Reads t x k i → (w : Write) → DependsOn t x i w → Remembers (rule z s x .state) k (λ q. q .readVector) w
-  unfolding withSlot afterRead
   read-remembers i r w m =
-      let d : ReadDone z s k (x .b) (x .c) (rule z s x .answer) (rule z s x .state) = read-did means x k i r in
-      let held : In w (s .log (d .server)) = subst (λ (j : ℕ). In w (s .log j)) (sym (read-at means x k i r)) (stored means i w (relevant-held (x .b) (database t i) w m)) in
+      let d : ReadDone z s k (x .b) (x .c) (step t x .answer) (rule z s x .state) = read-did means x k i r in
+      let holds : In w (s .log i) = stored means i w (relevant-held (x .b) (database t i) w m) in
+      let there : In w (s .log (d .server)) = subst (λ (j : ℕ). In w (s .log j)) (sym (read-at means x k i r)) holds in
       record {
-        session = afterRead (d .session) (d .server) (s .vector (d .server));
-        is = ap (λ u. u .slot k) (d .leaves) ∙ upd-same (s .slot) k _ k refl;
-        covers =
-            omega (arith, means .state .covered (d .server) w held, join-right (d .session .readVector) (s .vector (d .server)) (w .origin));
-        made =
-            subst (λ (u : State). In w (u .log (w .origin))) (sym (d .leaves)) (means .state .home (d .server) w held);
+        session = d .next;
+        is = d .still-open;
+        covers = omega (arith, means .state .covered (d .server) w there, d .raised (w .origin));
+        made = subst (λ (g : List Write). In w g) (sym (d .rest .logs (w .origin))) (means .state .home (d .server) w there);
       }
 
   -- After a write the write-vector covers it.
   pub write-remembers : (w : Write) → Writes t x k w → Remembers (rule z s x .state) k (λ q. q .writeVector) w
-  unfolding accepted withSlot withVector withLog afterWrite newWrite
   write-remembers w r =
-      let d : WriteDone z s k (x .b) (x .c) (x .d) (rule z s x .answer) (rule z s x .state) = write-did means x k w r in
-      let w′ = newWrite z s (d .server) (x .b) (x .c) in
-      let new : Remembers (rule z s x .state) k (λ q. q .writeVector) w′ =
+      let d : WriteDone z s k (x .b) (x .c) (x .d) (step t x .answer) (rule z s x .state) = write-did means x k w r in
+      let home : d .write .origin ≡ d .server = ap (λ v. v .origin) (d .write-is) in
+      let new : Remembers (rule z s x .state) k (λ q. q .writeVector) (d .write) =
       record {
-        session = afterWrite (d .session) (d .server) (w′ .clock);
-        is = ap (λ u. u .slot k) (d .leaves) ∙ upd-same (s .slot) k _ k refl;
-        covers = omega (arith, upd-same (d .session .writeVector) (d .server) (w′ .clock) (d .server) refl);
-        made = subst (λ (g : List Write). In w′ g) (sym (d .stored)) (in-append-right (s .log (d .server)) (here refl));
+        session = d .next;
+        is = d .still-open;
+        covers = omega (arith, ap (λ v. v .clock) (d .write-is), d .set, ap (d .next .writeVector) home);
+        made = subst (λ (j : ℕ). In (d .write) (rule z s x .state .log j)) (sym home)
+            (subst (λ (g : List Write). In (d .write) g) (sym (d .stored)) (in-append-right (s .log (d .server)) (here refl)));
       } in
       subst (Remembers (rule z s x .state) k (λ q. q .writeVector)) (sym (write-is means x k w r)) new
 
@@ -130,7 +129,7 @@ module _ {z : Size} {s : State} {t : List ℕ} (means : Means z s t) (y : Step) 
       → (j : ℕ) → Reads t y k j → Chose t k guarantee → Remembers s k vector w → Stores t j w
   unfolding upToDateToRead
   read-served guarantee vector checked j r c m =
-      let d : ReadDone z s k (y .b) (y .c) (rule z s y .answer) (rule z s y .state) = read-did means y k j r in
+      let d : ReadDone z s k (y .b) (y .c) (step t y .answer) (rule z s y .state) = read-did means y k j r in
       let q = d .session in
       stores means j w (subst (λ (i : ℕ). In w (s .log i)) (read-at means y k j r) (dominated-stored (means .state) (d .server) (vector q)
       (checked q (s .vector (d .server)) (d .chosen .passed) (chose-here guarantee q (d .open-slot) c)) w (m .made)
@@ -141,12 +140,11 @@ module _ {z : Size} {s : State} {t : List ℕ} (means : Means z s t) (y : Step) 
       → (w₂ : Write) → Writes t y k w₂ → Chose t k guarantee → Remembers s k vector w → Precedes (rule z s y .state) w w₂
   unfolding upToDateToWrite
   write-served guarantee vector checked w₂ r c m =
-      let d : WriteDone z s k (y .b) (y .c) (y .d) (rule z s y .answer) (rule z s y .state) = write-did means y k w₂ r in
+      let d : WriteDone z s k (y .b) (y .c) (y .d) (step t y .answer) (rule z s y .state) = write-did means y k w₂ r in
       let q = d .session in
       let held : In w (s .log (d .server)) =
       dominated-stored (means .state) (d .server) (vector q) (checked q (s .vector (d .server))
       (may-current z s q (d .server) (d .chosen .passed))
       (chose-here guarantee q (d .open-slot) c)) w (m .made)
       (subst (λ (p : Session). w .clock ≤ vector p (w .origin)) (one-session (m .is) (d .open-slot)) (m .covers)) in
-      subst₂ (λ (u : State) (v : Write). Precedes u w v) (sym (d .leaves)) (sym (write-is means y k w₂ r))
-      (accepted-precedes (means .state) k q (d .server) (y .b) (y .c) (d .chosen .server) w held)
+      subst (λ (v : Write). Precedes (rule z s y .state) w v) (sym (write-is means y k w₂ r)) (accepted-precedes (means .state) d w held)

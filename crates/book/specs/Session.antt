@@ -14,7 +14,7 @@ use Rattle.tables.specs.SoundState.{SoundState, SoundSession, SoundSlot}
 use Rattle.steps.specs.Step.{Op, closes, Answer, done}
 use Rattle.steps.specs.Rules.{newSession, afterRead, afterWrite, accepted, received, newWrite}
 use Rattle.steps.specs.Effects.{Effect, was-refused, was-opened, was-closed, was-read, was-written, was-exchanged}
-use Rattle.steps.specs.Grown.{new-above}
+use Rattle.steps.specs.Arrivals.{new-above}
 
 -- The same session later on: the same guarantees, and vectors that did not fall.
 pub record Later (q r : Session) : Type 0 where

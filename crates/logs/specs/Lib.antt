@@ -1,12 +1,12 @@
 pub mod Write
 pub mod WriteLaws
 pub mod Log
-pub mod Rules
+pub mod LogTests
 pub mod Places
 pub mod PlacesLaws
 pub mod Ascending
 pub mod AscendingLaws
 pub mod Witness
 pub mod OrderedLaws
-pub mod RulesLaws
+pub mod LogTestLaws
 pub mod LogLaws

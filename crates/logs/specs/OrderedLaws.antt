@@ -17,7 +17,7 @@ use Rattle.logs.specs.WriteLaws.{before-clock-le, before-trans}
 use Rattle.logs.specs.Ascending.{Ascending, ascending-nil, ascending-cons}
 use Rattle.logs.specs.AscendingLaws.{ascending-head, ascending-tail}
 use Rattle.logs.specs.Witness.{Timed}
-use Rattle.logs.specs.Rules.{inRange, goesOn, ordered}
+use Rattle.logs.specs.LogTests.{inRange, goesOn, ordered}
 
 -- No clock is below the first.
 pub first-least : {x : Write} {xs : List Write} → Ascending (x ∷ xs) → (y : Write) → In y (x ∷ xs) → x .clock ≤ y .clock

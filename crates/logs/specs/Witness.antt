@@ -1,7 +1,7 @@
 -- A write that a log holds: one with a clock, one with an origin and a clock, and the last one on an item. Assumes nothing.
+use Prim.Native.Nat.{ℕ}
 use mathlib.Core.Logic.{_⊎_}
 use mathlib.Core.Bool.{true}
-use Prim.Native.Nat.{ℕ}
 use mathlib.Core.List.{List}
 use mathlib.Core.Path.{_≡_}
 use Rattle.words.specs.Lists.{In}

@@ -2,8 +2,8 @@
 use Prim.Native.Nat.{ℕ, _≤_}
 use mathlib.Core.Bool.{true, false, _&&_}
 use mathlib.Core.List.{List, [], _∷_, _++_}
-use mathlib.Core.Logic.{⊎-elim}
-use mathlib.Core.Path.{_≡_, refl, sym, _∙_, ap, ap₂, subst}
+use mathlib.Core.Logic.{⊎-elim, _⊎_}
+use mathlib.Core.Path.{_≡_, refl, sym, _∙_, ap, ap₂, subst, subst₂}
 use native.Mathlib.Omega.{arith}
 use borrow.Author.Tests.{leb-true}
 use lib.Dec.{leb}
@@ -19,7 +19,7 @@ use Rattle.tables.specs.Make.{fresh}
 use Rattle.tables.specs.Sound.{sound}
 use Rattle.tables.specs.Meaning.{Means}
 use Rattle.tables.specs.MeaningLaws.{sound-means, means-sound, means-size, means-state, fresh-sound}
-use Rattle.steps.specs.Step.{Step, Op, asked, Answer, refused, done}
+use Rattle.steps.specs.Step.{Step, Op, asked, Answer, refused, done, bad}
 use Rattle.steps.specs.StepLaws.{asked-inRange}
 use Rattle.steps.specs.Rules.{writeAnswer, exchangeAnswer, rule}
 use Rattle.steps.specs.CodeLaws.{read-code}
@@ -63,6 +63,19 @@ module _ {z : Size} {s : State} {t : List ℕ} (means : Means z s t) (x : Step) 
         words = ap (λ o. o .table) step-means;
       }
 
+-- What is out of range is refused.
+pub bad-refused : {A : Type 0} {z : Size} {s : State} {r : Answer} {after : State} → Effect z s bad r after → r .code ≡ 0 → A
+unfolding refused
+bad-refused (was-refused code h) e = absurd (omega arith)
+
+-- An accepted step has the effect of what its kind asks for.
+pub accepted-effect : {z : Size} {s : State} {t : List ℕ} (means : Means z s t) (x : Step) → step t x .answer .code ≡ 0
+    → (o : Op) → (asked z x ≡ o) ⊎ (asked z x ≡ bad) → Effect z s o (step t x .answer) (rule z s x .state)
+accepted-effect {z} {s} {t} means x e o asks =
+    let effect : (p : Op) → asked z x ≡ p → Effect z s p (step t x .answer) (rule z s x .state) =
+    λ p q. subst₂ (λ (u : Op) (r : Answer). Effect z s u r (rule z s x .state)) q (sym (step-answer means x)) (step-effect means x) in
+    ⊎-elim (λ q. effect o q) (λ q. bad-refused (effect bad q) e) asks
+
 -- Each step keeps a sound table sound.
 pub step-sound : (t : List ℕ) (x : Step) → sound t ≡ true → sound (step t x .table) ≡ true
 step-sound t x h = means-sound (means-next (sound-means t h) x)
@@ -90,21 +103,34 @@ step-ended t x h =
     (effect-ended (step-effect means x))
 
 -- A refused step, of any code and on any table, answers its code and four zeros and leaves every word.
-pub step-refused : (t : List ℕ) (x : Step) → (step t x .answer .code ≡ 0 → ⊥)
-    → (step t x .answer ≡ refused (step t x .answer .code)) × (step t x .table ≡ t)
+pub record Refusal (t : List ℕ) (x : Step) : Type 0 where
+  pub no-server : step t x .answer .server ≡ 0
+  pub no-origin : step t x .answer .origin ≡ 0
+  pub no-clock : step t x .answer .clock ≡ 0
+  pub no-value : step t x .answer .value ≡ 0
+  pub same-words : step t x .table ≡ t
+
+refused-words : (t : List ℕ) (x : Step) (code : ℕ) → step t x .answer ≡ refused code → step t x .table ≡ t → Refusal t x
 unfolding refused
+refused-words t x code e same =
+    record {
+      no-server = ap (λ r. r .server) e;
+      no-origin = ap (λ r. r .origin) e;
+      no-clock = ap (λ r. r .clock) e;
+      no-value = ap (λ r. r .value) e;
+      same-words = same;
+    }
+
+pub step-refused : (t : List ℕ) (x : Step) → (step t x .answer .code ≡ 0 → ⊥) → Refusal t x
 step-refused t x not-done = ⊎-elim (λ h. go h (step-ended t x h)) (λ h. unsound (step-unsound t x h)) (either (sound t))
   where
-    unsound : step t x ≡ record { answer = refused 1; table = t } → (step t x .answer ≡ refused (step t x .answer .code)) × (step t x .table ≡ t)
-    unsound e = (ap (λ o. o .answer) e ∙ ap (λ o. refused (o .answer .code)) (sym e), ap (λ o. o .table) e)
+    unsound : step t x ≡ record { answer = refused 1; table = t } → Refusal t x
+    unsound e = refused-words t x 1 (ap (λ o. o .answer) e) (ap (λ o. o .table) e)
 
-    go : sound t ≡ true → Ended (step t x .answer) (decode (sizeOf t) t) (rule (sizeOf t) (decode (sizeOf t) t) x .state)
-        → (step t x .answer ≡ refused (step t x .answer .code)) × (step t x .table ≡ t)
+    go : sound t ≡ true → Ended (step t x .answer) (decode (sizeOf t) t) (rule (sizeOf t) (decode (sizeOf t) t) x .state) → Refusal t x
     go h (accepted e) = absurd (not-done e)
-    go h (rejected code l e same) = (
-      e ∙ ap refused (ap (λ r. r .code) (sym e)),
-      means-next (sound-means t h) x .words ∙ (ap (encode (sizeOf t)) same ∙ sym (sound-means t h .words)),
-    )
+    go h (rejected code l e same) =
+        refused-words t x code e (means-next (sound-means t h) x .words ∙ (ap (encode (sizeOf t)) same ∙ sym (sound-means t h .words)))
 
 -- ---- steps one after another
 

@@ -1,5 +1,4 @@
 -- What holds of the search order and of reach. Assumes nothing.
-use Rattle.steps.specs.Chosen.{Chosen, Reachable}
 use Prim.Native.Nat.{ℕ, zero, suc, _+_, _-_, _/_, _%_, _^_, _<_, _≤_}
 use mathlib.Core.Bool.{Bool, true, false, _&&_}
 use mathlib.Core.List.{List, [], _∷_, _++_}
@@ -18,6 +17,7 @@ use Rattle.words.specs.TestLaws.{cond-elim, cond-true, cond-false, either, true
 use Rattle.tables.specs.Size.{Size}
 use Rattle.tables.specs.State.{Session, opened, State}
 use Rattle.tables.specs.SoundState.{SoundState, SoundSession, SoundSlot}
+use Rattle.steps.specs.Chosen.{Chosen, Reachable}
 use Rattle.steps.specs.Step.{reachInRange}
 use Rattle.steps.specs.Choice.{reaches, startOf, next, onwards, around, choose, upToDateToWrite, hasRoom, mayWriteTo}
 

@@ -1,5 +1,4 @@
 -- The rules give each code exactly on its condition. Assumes nothing.
-use Rattle.steps.specs.Chosen.{Chosen}
 use Prim.Native.Nat.{ℕ, zero, suc, _<_, _≤_}
 use mathlib.Core.Bool.{Bool, true, false, _&&_}
 use mathlib.Core.Logic.{_↔_, ⊎-elim}
@@ -17,6 +16,7 @@ use Rattle.logs.specs.Log.{lastOn}
 use Rattle.tables.specs.Size.{Size}
 use Rattle.tables.specs.State.{Session, Slot, closed, opened, State}
 use Rattle.tables.specs.SoundState.{SoundState}
+use Rattle.steps.specs.Chosen.{Chosen}
 use Rattle.steps.specs.Step.{Op, bad, opens, closes, reads, writes, exchanges, refused, done}
 use Rattle.steps.specs.Choice.{upToDateToRead, upToDateToWrite, reaches, startOf, choose, around, mayWriteTo}
 use Rattle.steps.specs.ChoiceLaws.{choose-some, choose-none, around-below, starts, may-current, may-room, may-write}

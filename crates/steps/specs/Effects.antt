@@ -1,6 +1,5 @@
 -- What a step does, in six cases. Later facts about what steps leave go by these cases.
 -- Assumes nothing.
-use Rattle.steps.specs.Chosen.{ChosenToRead, ChosenToWrite, Chosen}
 use Prim.Native.Nat.{ℕ, _≤_}
 use mathlib.Core.Option.{Option, none, some}
 use mathlib.Core.Path.{_≡_, refl}
@@ -12,6 +11,7 @@ use Rattle.logs.specs.Log.{lastOn}
 use Rattle.tables.specs.Size.{Size}
 use Rattle.tables.specs.State.{Session, Slot, closed, opened, State, withSlot}
 use Rattle.tables.specs.SoundState.{SoundState}
+use Rattle.steps.specs.Chosen.{ChosenToRead, ChosenToWrite}
 use Rattle.steps.specs.Step.{Op, bad, opens, closes, reads, writes, exchanges, Answer, refused, done}
 use Rattle.steps.specs.Choice.{upToDateToRead, startOf, mayWriteTo}
 use Rattle.steps.specs.ChoiceLaws.{choose-some, starts}

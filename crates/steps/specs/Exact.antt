@@ -1,32 +1,31 @@
 -- Demand 2, of the step on words that the delivered calls promise. Assumes nothing.
-use Rattle.steps.specs.Chosen.{Reachable}
 use Prim.Native.Nat.{ℕ, _<_, _≤_}
 use mathlib.Core.Bool.{Bool, true, false}
 use mathlib.Core.List.{List}
-use mathlib.Core.Logic.{⊎-elim, _↔_}
-use mathlib.Core.Path.{_≡_, sym, _∙_, ap, subst, subst₂}
+use mathlib.Core.Logic.{⊎-elim, _↔_, _⊎_, inl, inr}
+use mathlib.Core.Path.{_≡_, sym, _∙_, ap, subst, refl}
 use native.Mathlib.Omega.{arith}
 use Rattle.words.specs.TestLaws.{either, not-true-false}
-use Rattle.logs.specs.Rules.{greatestOf}
-use Rattle.logs.specs.RulesLaws.{greatest-unique}
+use Rattle.logs.specs.LogTests.{greatestOf}
 use Rattle.tables.specs.Size.{Size}
 use Rattle.tables.specs.State.{Session, opened, State}
 use Rattle.tables.specs.Layout.{sizeOf, decode}
 use Rattle.tables.specs.Sound.{sound}
 use Rattle.tables.specs.Meaning.{Means}
 use Rattle.tables.specs.MeaningLaws.{sound-means, means-state}
-use Rattle.steps.specs.Step.{Step, Op, reads, writes, exchanges, reachInRange, asked, Answer, refused}
-use Rattle.steps.specs.StepLaws.{InRange, asked-inRange}
+use Rattle.steps.specs.Chosen.{Reachable}
+use Rattle.steps.specs.Step.{Step, Op, reads, writes, exchanges, reachInRange, asked, refused, bad, opens, closes, Proper}
+use Rattle.steps.specs.StepLaws.{InRange, asked-inRange, asked-open, asked-closing, asked-read, asked-write, asked-exchange, bad-exactly}
 use Rattle.steps.specs.Choice.{reaches, upToDateToRead, upToDateToWrite}
 use Rattle.steps.specs.ChoiceLaws.{reach-some, reach-none}
 use Rattle.steps.specs.Rules.{rule}
 use Rattle.steps.specs.Effects.{Effect}
-use Rattle.steps.specs.Codes.{Given, NoneReachable, BehindBy, Behind, reads-behind, writes-behind, Full}
+use Rattle.steps.specs.Codes.{Given, NoneReachable, BehindBy, Behind, reads-behind, writes-behind, Full, OutOfRange, out-of-range, WrongSlot, ToItself}
 use Rattle.steps.specs.CodeLaws.{code-exactly}
-use Rattle.steps.specs.Done.{ReadDone, WriteDone, ExchangeDone}
-use Rattle.steps.specs.DoneLaws.{read-done, write-done, exchange-done}
+use Rattle.steps.specs.Done.{OpenDone, CloseDone, ReadDone, WriteDone, ExchangeDone}
+use Rattle.steps.specs.DoneLaws.{state-follows, open-done, close-done, read-done, write-done, exchange-done}
 use Rattle.steps.specs.Calls.{step}
-use Rattle.steps.specs.CallLaws.{within-server, step-unsound, step-answer, step-effect, means-next, step-sound, step-not-1}
+use Rattle.steps.specs.CallLaws.{within-server, step-unsound, step-answer, means-next, step-sound, step-not-1, accepted-effect, bad-refused}
 
 -- ---- the codes
 
@@ -51,15 +50,35 @@ given-exactly t x c l = (
         let means : Means (sizeOf t) (decode (sizeOf t) t) t = sound-means t h in
         code-exactly (sizeOf t) (decode (sizeOf t) t) (within-server (sizeOf t) (means .limits)) (means .state) (asked (sizeOf t) x) c l
 
--- 5: "reach is 0", 6: "behind", 7: "full".
+-- 2: "kind, slot, server, item, guarantees, reach or unused word out of range": exactly if the step is not proper.
+pub range-exactly : (t : List ℕ) (x : Step) → (step t x .answer .code ≡ 2) ↔ ((sound t ≡ true) × (Proper (sizeOf t) x → ⊥))
+range-exactly t x = (
+  λ e. let g = given-exactly t x 2 (omega arith) .0 e in (g .0, bad-exactly (sizeOf t) x .0 (is-bad (asked (sizeOf t) x) (g .1))),
+  λ h. given-exactly t x 2 (omega arith) .1 (h .0, subst OutOfRange (sym (bad-exactly (sizeOf t) x .1 (h .1))) out-of-range),
+)
+  where
+    is-bad : (o : Op) → OutOfRange o → o ≡ bad
+    is-bad o out-of-range = refl
+
+-- 3: "open of an open slot; close, read or write on a closed one", and 4: "exchange from a server to itself".
+pub slot-exactly : (t : List ℕ) (x : Step)
+    → (step t x .answer .code ≡ 3) ↔ ((sound t ≡ true) × WrongSlot (decode (sizeOf t) t) (asked (sizeOf t) x))
+slot-exactly t x = given-exactly t x 3 (omega arith)
+
+pub itself-exactly : (t : List ℕ) (x : Step) → (step t x .answer .code ≡ 4) ↔ ((sound t ≡ true) × ToItself (asked (sizeOf t) x))
+itself-exactly t x = given-exactly t x 4 (omega arith)
+
+-- 5: "reach is 0".
 pub none-reachable-exactly : (t : List ℕ) (x : Step)
     → (step t x .answer .code ≡ 5) ↔ ((sound t ≡ true) × NoneReachable (decode (sizeOf t) t) (asked (sizeOf t) x))
 none-reachable-exactly t x = given-exactly t x 5 (omega arith)
 
+-- 6: "behind: reach isn't 0 and no reachable server is up to date".
 pub behind-exactly : (t : List ℕ) (x : Step)
     → (step t x .answer .code ≡ 6) ↔ ((sound t ≡ true) × Behind (sizeOf t) (decode (sizeOf t) t) (asked (sizeOf t) x))
 behind-exactly t x = given-exactly t x 6 (omega arith)
 
+-- 7: "full: some reachable server is up to date, none such has a free place".
 pub full-exactly : (t : List ℕ) (x : Step)
     → (step t x .answer .code ≡ 7) ↔ ((sound t ≡ true) × Full (sizeOf t) (decode (sizeOf t) t) (asked (sizeOf t) x))
 full-exactly t x = given-exactly t x 7 (omega arith)
@@ -114,41 +133,54 @@ module _ (t : List ℕ) (x : Step) (is-sound : sound t ≡ true) (k reach : ℕ)
       unwritten : Behind (sizeOf t) (decode (sizeOf t) t) (writes k item value reach) → BehindBy (sizeOf t) (decode (sizeOf t) t) (upToDateToWrite (sizeOf t) (decode (sizeOf t) t)) k reach
       unwritten (writes-behind b) = b
 
--- ---- what accepted steps do
+-- ---- what accepted steps do, kind by kind
 
 module _ (t : List ℕ) (x : Step) (is-sound : sound t ≡ true) (done : step t x .answer .code ≡ 0) where
+  -- The size and the state that the table means, and the state that it then means.
   abbrev z : Size
   z = sizeOf t
 
   abbrev s : State
   s = decode (sizeOf t) t
 
-  -- The state that the table then means.
   abbrev after : State
   after = decode (sizeOf (step t x .table)) (step t x .table)
 
-  happened : (o : Op) → asked z x ≡ o → Effect z s o (step t x .answer) after
-  happened o e =
-      let means : Means z s t = sound-means t is-sound in
-      subst₂ (λ (r : Answer) (u : State). Effect z s o r u) (sym (step-answer means x)) (sym (means-state (means-next means x)))
-      (subst (λ (p : Op). Effect z s p (rule z s x .answer) (rule z s x .state)) e (step-effect means x))
+  abbrev means : Means z s t
+  means = sound-means t is-sound
 
-  pub read-exactly : (k item reach : ℕ) → asked z x ≡ reads k item reach → ReadDone z s k item reach (step t x .answer) after
-  read-exactly k item reach e = read-done (happened (reads k item reach) e) done
+  happened : (o : Op) → (asked z x ≡ o) ⊎ (asked z x ≡ bad) → Effect z s o (step t x .answer) after
+  happened o asks =
+      subst (λ (u : State). Effect z s o (step t x .answer) u) (sym (means-state (means-next means x))) (accepted-effect means x done o asks)
 
-  pub write-exactly : (k item value reach : ℕ) → asked z x ≡ writes k item value reach
-      → WriteDone z s k item value reach (step t x .answer) after
-  write-exactly k item value reach e = write-done (sound-means t is-sound .state) (happened (writes k item value reach) e) done
+  -- An open sets the guarantees and zeros the rest of its slot.
+  pub open-exactly : x .kind ≡ 1 → OpenDone s (x .a) (x .b) (step t x .answer) after
+  open-exactly k = open-done (happened (opens (x .a) (x .b)) (asked-open z x k)) done
 
-  pub exchange-exactly : (source target most : ℕ) → asked z x ≡ exchanges source target most
-      → ExchangeDone z s source target most (step t x .answer) after
-  exchange-exactly source target most e = exchange-done (sound-means t is-sound .state) (happened (exchanges source target most) e) done
+  -- A close closes its slot,
+  pub close-exactly : x .kind ≡ 2 → CloseDone s (x .a) (step t x .answer) after
+  close-exactly k = close-done (happened (closes (x .a)) (asked-closing z x k)) done
 
--- 002, section 5: a server's version vector "precisely specifies the set of Writes in its database". After every step on a sound table,
--- accepted or refused, each component is the greatest clock of its origin in the server's log, or 0.
+  -- A read is served by the first reachable server that is up to date, and raises the read-vector.
+  pub read-exactly : x .kind ≡ 3 → ReadDone z s (x .a) (x .b) (x .c) (step t x .answer) after
+  read-exactly k = read-done (means .state) (happened (reads (x .a) (x .b) (x .c)) (asked-read z x k)) done
+
+  -- A write is taken by the first reachable server that is up to date and has a free place.
+  pub write-exactly : x .kind ≡ 4 → WriteDone z s (x .a) (x .b) (x .c) (x .d) (step t x .answer) after
+  write-exactly k = write-done (means .state) (happened (writes (x .a) (x .b) (x .c) (x .d)) (asked-write z x k)) done
+
+  -- An exchange sends the first k of what lacks.
+  pub exchange-exactly : x .kind ≡ 5 → ExchangeDone z s (x .a) (x .b) (x .c) (step t x .answer) after
+  exchange-exactly k =
+      let asks = asked-exchange z x k in
+      exchange-done (means .state) (in-range asks) (happened (exchanges (x .a) (x .b) (x .c)) asks) done
+    where
+      in-range : (asked z x ≡ exchanges (x .a) (x .b) (x .c)) ⊎ (asked z x ≡ bad) → InRange z (exchanges (x .a) (x .b) (x .c))
+      in-range (inl e) = subst (InRange z) e (asked-inRange z x)
+      in-range (inr e) = bad-refused (happened bad (inl e)) done
+
+-- After every step on a sound table, accepted or refused, each component of each vector is the greatest clock of its origin in the
+-- server's log, or 0. (002, section 5: a vector "precisely specifies the set of Writes in its database".)
 pub vectors-follow : (t : List ℕ) (x : Step) → sound t ≡ true → (i j : ℕ)
-    → let u = decode (sizeOf (step t x .table)) (step t x .table) in u .vector i j ≡ greatestOf j (u .log i)
-vectors-follow t x h i j =
-    let u = decode (sizeOf (step t x .table)) (step t x .table) in
-    let state = sound-means (step t x .table) (step-sound t x h) .state in
-    greatest-unique j (u .vector i j) (u .log i) (λ w m e. subst (λ k. w .clock ≤ u .vector i k) e (state .covered i w m)) (state .attained i j)
+    → decode (sizeOf (step t x .table)) (step t x .table) .vector i j ≡ greatestOf j (decode (sizeOf (step t x .table)) (step t x .table) .log i)
+vectors-follow t x h i j = state-follows (sound-means (step t x .table) (step-sound t x h) .state) i j

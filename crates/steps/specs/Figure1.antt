@@ -63,11 +63,11 @@ module _ (s : State) (k : ℕ) (q : Session) (i : ℕ) (w : Write) where
       ap (λ (v : ℕ → ℕ). v i) (upd-same (s .vector) i (upd (s .vector i) i (w .clock)) i refl) ∙ upd-same (s .vector i) i (w .clock) i refl
 
   -- Every other component of every server stays.
-  pub accepted-others : (h j : ℕ) → (j ≡ i → ⊥) → accepted s k q i w .vector h j ≡ s .vector h j
+  pub accepted-others : (h j : ℕ) → (h ≡ i → j ≡ i → ⊥) → accepted s k q i w .vector h j ≡ s .vector h j
   unfolding accepted withSlot withVector withLog
   accepted-others h j e =
       upd-elim (λ (v : ℕ → ℕ). v j ≡ s .vector h j) (s .vector) i (upd (s .vector i) i (w .clock)) h
-      (λ d. upd-other (s .vector i) i (w .clock) j e ∙ ap (λ m. s .vector m j) (sym d)) (λ d. refl)
+      (λ d. upd-other (s .vector i) i (w .clock) j (e d) ∙ ap (λ m. s .vector m j) (sym d)) (λ d. refl)
 
 -- 01: "Open sets guarantees, zeros the rest."
 module _ (g : ℕ) where

@@ -8,7 +8,7 @@ pub mod Figure1
 pub mod Codes
 pub mod CodeLaws
 pub mod Effects
-pub mod Grown
+pub mod Arrivals
 pub mod SoundKept
 pub mod Calls
 pub mod CallLaws

@@ -12,7 +12,7 @@ use Rattle.words.specs.TestLaws.{and-both}
 use Rattle.vectors.specs.Vector.{dominates, join, greatest}
 use Rattle.logs.specs.Write.{before, same}
 use Rattle.logs.specs.Log.{insert, insertAll, lastOn, lacking, follow}
-use Rattle.logs.specs.Rules.{inRange, goesOn, ordered, ofOrigin, upTo, greatestClock, greatestOf, sameAll, agrees}
+use Rattle.logs.specs.LogTests.{inRange, goesOn, ordered, ofOrigin, upTo, greatestClock, greatestOf, sameAll, agrees}
 use Rattle.logs.specs.Places.{spelled, places, entry, entries}
 use Rattle.tables.specs.Size.{Size, within}
 use Rattle.tables.specs.State.{withVector, withLog, withSlot}

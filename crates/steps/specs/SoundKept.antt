@@ -1,5 +1,4 @@
 -- A step never makes a sound state unsound, and no log ever loses a write. Assumes nothing.
-use Rattle.steps.specs.Chosen.{ChosenToWrite}
 use Prim.Native.Nat.{ℕ, _<_, _≤_}
 use mathlib.Core.List.{[], _∷_, _++_}
 use mathlib.Core.Logic.{⊎-elim}
@@ -15,13 +14,14 @@ use Rattle.tables.specs.Size.{Size, sums}
 use Rattle.tables.specs.State.{Session, closed, opened, State, withVector, withLog, withSlot}
 use Rattle.tables.specs.SoundState.{SoundState, SoundSession, SoundSlot}
 use Rattle.tables.specs.Growth.{Grows, vector-below-own, slot-above, slot-sound, grows-above, grows-keeps, grows-sound}
+use Rattle.steps.specs.Chosen.{ChosenToWrite}
 use Rattle.steps.specs.ChoiceLaws.{may-room}
 use Rattle.steps.specs.Step.{Op, writes, Answer}
 use Rattle.steps.specs.StepLaws.{InRange}
 use Rattle.steps.specs.Rules.{newSession, afterRead, afterWrite, newWrite, accepted, received}
 use Rattle.steps.specs.Effects.{Effect, was-refused, was-opened, was-closed, was-read, was-written, was-exchanged}
 use Rattle.steps.specs.Figure1.{read-raises, read-leaves, read-chosen, read-uses, write-sets, write-leaves, write-reads, write-chosen, write-uses, new-chosen, new-unused, new-reads, new-writes}
-use Rattle.steps.specs.Grown.{write-grows, exchange-grows}
+use Rattle.steps.specs.Arrivals.{write-grows, exchange-grows}
 
 -- ---- sessions
 

@@ -1,12 +1,12 @@
 -- What is known of a step that is in range. Assumes nothing.
-use lib.Pow.{pow-pos}
-use native.Mathlib.Nat.{one-mul, div-lt-iff-lt-mul, div-eq-of-lt}
 use Prim.Native.Nat.{ℕ, _<_, _/_, _^_}
 use mathlib.Core.Bool.{Bool, true, cond}
 use mathlib.Core.Logic.{_⊎_, inl, inr, _↔_}
 use mathlib.Core.Path.{_≡_, refl, ap, _∙_, subst}
+use native.Mathlib.Nat.{one-mul, div-lt-iff-lt-mul, div-eq-of-lt}
 use native.Mathlib.Omega.{arith}
 use borrow.Author.Tests.{ltb-true, eqb-true, lt-ltb, eq-eqb}
+use lib.Pow.{pow-pos}
 use lib.Dec.{eqb}
 use Rattle.words.specs.TestLaws.{cond-elim, and-left, and-right, cond-true, and-both}
 use Rattle.tables.specs.Size.{Size, items, sums}
@@ -57,15 +57,34 @@ module _ (z : Size) (x : Step) where
 
   -- ---- what is asked, by the kind word
 
+  -- A step of each kind asks for that, or is bad.
+  abbrev Or-bad : Op → Op → Type 0
+  Or-bad p o = (o ≡ p) ⊎ (o ≡ bad)
+
+  pub asked-open : x .kind ≡ 1 → (asked z x ≡ opens (x .a) (x .b)) ⊎ (asked z x ≡ bad)
+  asked-open e =
+      by-kind (Or-bad (opens (x .a) (x .b))) (λ k g. inl refl) (λ k g. absurd (omega arith)) (λ k g. absurd (omega arith))
+      (λ k g. absurd (omega arith)) (λ k g. absurd (omega arith)) (inr refl)
+
+  pub asked-closing : x .kind ≡ 2 → (asked z x ≡ closes (x .a)) ⊎ (asked z x ≡ bad)
+  asked-closing e =
+      by-kind (Or-bad (closes (x .a))) (λ k g. absurd (omega arith)) (λ k g. inl refl) (λ k g. absurd (omega arith))
+      (λ k g. absurd (omega arith)) (λ k g. absurd (omega arith)) (inr refl)
+
   pub asked-read : x .kind ≡ 3 → (asked z x ≡ reads (x .a) (x .b) (x .c)) ⊎ (asked z x ≡ bad)
   asked-read e =
-      by-kind (λ o. (o ≡ reads (x .a) (x .b) (x .c)) ⊎ (o ≡ bad)) (λ k g. absurd (omega arith)) (λ k g. absurd (omega arith))
-      (λ k g. inl refl) (λ k g. absurd (omega arith)) (λ k g. absurd (omega arith)) (inr refl)
+      by-kind (Or-bad (reads (x .a) (x .b) (x .c))) (λ k g. absurd (omega arith)) (λ k g. absurd (omega arith)) (λ k g. inl refl)
+      (λ k g. absurd (omega arith)) (λ k g. absurd (omega arith)) (inr refl)
 
   pub asked-write : x .kind ≡ 4 → (asked z x ≡ writes (x .a) (x .b) (x .c) (x .d)) ⊎ (asked z x ≡ bad)
   asked-write e =
-      by-kind (λ o. (o ≡ writes (x .a) (x .b) (x .c) (x .d)) ⊎ (o ≡ bad)) (λ k g. absurd (omega arith)) (λ k g. absurd (omega arith))
+      by-kind (Or-bad (writes (x .a) (x .b) (x .c) (x .d))) (λ k g. absurd (omega arith)) (λ k g. absurd (omega arith))
       (λ k g. absurd (omega arith)) (λ k g. inl refl) (λ k g. absurd (omega arith)) (inr refl)
+
+  pub asked-exchange : x .kind ≡ 5 → (asked z x ≡ exchanges (x .a) (x .b) (x .c)) ⊎ (asked z x ≡ bad)
+  asked-exchange e =
+      by-kind (Or-bad (exchanges (x .a) (x .b) (x .c))) (λ k g. absurd (omega arith)) (λ k g. absurd (omega arith))
+      (λ k g. absurd (omega arith)) (λ k g. absurd (omega arith)) (λ k g. inl refl) (inr refl)
 
   -- Only kind 2 closes a slot, and only the slot that it names.
   pub asked-close : (k : ℕ) → asked z x ≡ closes k → (x .kind ≡ 2) × (x .a ≡ k)

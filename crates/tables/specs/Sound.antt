@@ -6,7 +6,7 @@ use lib.Dec.{leb, eqb}
 use lib.ListN.{length, getD, drop}
 use Rattle.words.specs.Tests.{all, zeros}
 use Rattle.logs.specs.Places.{width}
-use Rattle.logs.specs.Rules.{ordered, greatestOf, agrees}
+use Rattle.logs.specs.LogTests.{ordered, greatestOf, agrees}
 use Rattle.tables.specs.Size.{Size, within, items, sums}
 use Rattle.tables.specs.State.{State}
 use Rattle.tables.specs.Layout.{size, sizeOf, countAt, logPart, slotPart, decode}

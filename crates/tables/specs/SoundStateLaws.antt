@@ -18,9 +18,9 @@ use Rattle.logs.specs.Write.{Write}
 use Rattle.logs.specs.WriteLaws.{SameKey}
 use Rattle.logs.specs.AscendingLaws.{key-unique}
 use Rattle.logs.specs.Witness.{Witness, Timed}
-use Rattle.logs.specs.Rules.{greatestOf}
+use Rattle.logs.specs.LogTests.{greatestOf}
 use Rattle.logs.specs.OrderedLaws.{Ordered, ordered-nil, ordered-true, true-ordered, counted}
-use Rattle.logs.specs.RulesLaws.{Agreed, agrees-true, true-agrees, greatest-covers, greatest-attained, greatest-unique}
+use Rattle.logs.specs.LogTestLaws.{Agreed, agrees-true, true-agrees, greatest-covers, greatest-attained, greatest-unique}
 use Rattle.tables.specs.Size.{Size, items, sums}
 use Rattle.tables.specs.State.{State, Slot, closed, opened}
 use Rattle.tables.specs.Layout.{slotPart, slotWords, sessionOf, slotOf}

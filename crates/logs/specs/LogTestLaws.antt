@@ -17,7 +17,7 @@ use Rattle.logs.specs.WriteLaws.{same-true, same-refl}
 use Rattle.logs.specs.Ascending.{Ascending}
 use Rattle.logs.specs.AscendingLaws.{ascending-ext, keep-ascending}
 use Rattle.logs.specs.Witness.{Witness, Timed}
-use Rattle.logs.specs.Rules.{ofOrigin, upTo, greatestClock, greatestOf, sameAll, agrees}
+use Rattle.logs.specs.LogTests.{ofOrigin, upTo, greatestClock, greatestOf, sameAll, agrees}
 
 -- ---- d: a log and its server's vector
 

@@ -1,4 +1,5 @@
 -- What holds of a step on words and of steps one after another, for any table. Assumes nothing.
+use Rattle.tables.specs.SizeLaws.{within-exactly}
 use Prim.Native.Nat.{ℕ, _≤_}
 use mathlib.Core.Bool.{true, false, _&&_}
 use mathlib.Core.List.{List, [], _∷_, _++_}
@@ -28,8 +29,7 @@ use Rattle.steps.specs.SoundKept.{effect-sound}
 use Rattle.steps.specs.Calls.{written, step, onward, walk}
 
 pub within-server : (z : Size) → within z ≡ true → 1 ≤ z .n
-unfolding within
-within-server z h = leb-true 1 (z .n) (and-left (leb 1 (z .n)) (leb (z .n) mostServers) (and-left (leb 1 (z .n) && leb (z .n) mostServers) _ h))
+within-server z h = within-exactly z .0 h .some-server
 
 -- ---- one step
 

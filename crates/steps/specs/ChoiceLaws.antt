@@ -1,6 +1,7 @@
 -- What holds of the search order and of reach. Assumes nothing.
+use Rattle.words.specs.Tests.{all}
 use Prim.Native.Nat.{ℕ, zero, suc, _+_, _-_, _/_, _%_, _^_, _<_, _≤_}
-use mathlib.Core.Bool.{Bool, true, false, _&&_}
+use mathlib.Core.Bool.{Bool, true, false, _&&_, cond}
 use mathlib.Core.List.{List, [], _∷_, _++_}
 use mathlib.Core.Logic.{⊎-elim}
 use mathlib.Core.Option.{none, some}
@@ -13,13 +14,27 @@ use lib.Dec.{eqb}
 use Rattle.words.specs.CaseLaws.{lt-or-le}
 use Rattle.words.specs.Lists.{In, here, there}
 use Rattle.words.specs.ListLaws.{in-nil, in-cons, in-append-left, in-append-right, Found, first-found, first-none}
-use Rattle.words.specs.TestLaws.{cond-elim, cond-true, cond-false, either, true-not-false, and-left, and-right, and-both, not-true-false}
-use Rattle.tables.specs.Size.{Size}
+use Rattle.words.specs.TestLaws.{cond-elim, cond-true, cond-false, either, true-not-false, and-left, and-right, and-both, not-true-false, all-at}
+use Rattle.tables.specs.Size.{Size, sums}
 use Rattle.tables.specs.State.{Session, opened, State}
 use Rattle.tables.specs.SoundState.{SoundState, SoundSession, SoundSlot}
 use Rattle.steps.specs.Chosen.{Chosen, Reachable}
 use Rattle.steps.specs.Step.{reachInRange}
-use Rattle.steps.specs.Choice.{reaches, startOf, next, onwards, around, choose, upToDateToWrite, hasRoom, mayWriteTo}
+use Rattle.steps.specs.Choice.{reaches, startOf, next, onwards, around, choose, upToDateToWrite, hasRoom, mayWriteTo, readYourWrites, monotonicReads, writesFollowReads, monotonicWrites}
+
+-- ---- the guarantee bits
+
+-- A bit's weight where it is chosen, and their sum.
+unfoldable pub weight : Bool → ℕ → ℕ
+weight chosen bit = cond chosen bit 0
+
+unfoldable pub bits : ℕ → ℕ
+bits g = weight (readYourWrites g) 1 + weight (monotonicReads g) 2 + weight (writesFollowReads g) 4 + weight (monotonicWrites g) 8
+
+-- 01, "Numbers": "Guarantee bits: RYW 1, MR 2, WFR 4, MW 8; any sum 0 to 15."
+pub guarantee-bits : (g : ℕ) → g < sums → g ≡ bits g
+unfolding all bits weight readYourWrites monotonicReads writesFollowReads monotonicWrites
+guarantee-bits g h = eqb-true g (bits g) (all-at sums (λ k. eqb k (bits k)) refl g h)
 
 -- ---- the search order
 

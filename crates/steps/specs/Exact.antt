@@ -1,15 +1,18 @@
 -- Demand 2, of the step on words that the delivered calls promise. Assumes nothing.
-use Prim.Native.Nat.{ℕ, _<_, _≤_}
+use Rattle.tables.specs.LayoutLaws.{slotPart-encode, count-encode}
+use Rattle.words.specs.Tests.{zeros}
+use lib.ListN.{getD, length}
+use Prim.Native.Nat.{ℕ, _<_, _≤_, _+_, _*_}
 use mathlib.Core.Bool.{Bool, true, false}
 use mathlib.Core.List.{List}
 use mathlib.Core.Logic.{⊎-elim, _↔_, _⊎_, inl, inr}
 use mathlib.Core.Path.{_≡_, sym, _∙_, ap, subst, refl}
 use native.Mathlib.Omega.{arith}
-use Rattle.words.specs.TestLaws.{either, not-true-false}
+use Rattle.words.specs.TestLaws.{either, not-true-false, replicate-zeros}
 use Rattle.logs.specs.LogTests.{greatestOf}
 use Rattle.tables.specs.Size.{Size}
-use Rattle.tables.specs.State.{Session, opened, State}
-use Rattle.tables.specs.Layout.{sizeOf, decode}
+use Rattle.tables.specs.State.{Session, opened, State, closed}
+use Rattle.tables.specs.Layout.{sizeOf, decode, slotPart, slotWords, countAt}
 use Rattle.tables.specs.Sound.{sound}
 use Rattle.tables.specs.Meaning.{Means}
 use Rattle.tables.specs.MeaningLaws.{sound-means, means-state}
@@ -178,6 +181,26 @@ module _ (t : List ℕ) (x : Step) (is-sound : sound t ≡ true) (done : step t 
       in-range : (asked z x ≡ exchanges (x .a) (x .b) (x .c)) ⊎ (asked z x ≡ bad) → InRange z (exchanges (x .a) (x .b) (x .c))
       in-range (inl e) = subst (InRange z) e (asked-inRange z x)
       in-range (inr e) = bad-refused (happened bad (inl e)) done
+
+  -- On words: a close zeros every word of the slot,
+  pub close-zeros : x .kind ≡ 2 → x .a < z .p → zeros (slotPart z (step t x .table) (x .a)) ≡ true
+  unfolding slotWords
+  close-zeros k l =
+      let next = means-next means x in
+      let is : rule z s x .state .slot (x .a) ≡ closed = ap (λ u. u .slot (x .a)) (sym (means-state next)) ∙ close-exactly k .now-closed in
+      ap (λ u. zeros (slotPart z u (x .a))) (next .words)
+      ∙ (ap zeros (slotPart-encode z (rule z s x .state) (λ i m. next .state .room i) (x .a) l ∙ ap (slotWords (z .n)) is)
+      ∙ replicate-zeros (2 * z .n + 2))
+
+  -- and an exchange raises the count of "to" by the k that it answers.
+  pub count-rises : x .kind ≡ 5 → x .b < z .n → getD (step t x .table) (countAt z (x .b)) 0 ≡ getD t (countAt z (x .b)) 0 + step t x .answer .value
+  count-rises k l =
+      let next = means-next means x in
+      let d = exchange-exactly k in
+      let then = ap (λ u. getD u (countAt z (x .b)) 0) (next .words) ∙ count-encode z (rule z s x .state) (x .b) l in
+      let was = ap (λ u. getD u (countAt z (x .b)) 0) (means .words) ∙ count-encode z s (x .b) l in
+      let same = ap (λ u. length (u .log (x .b))) (means-state next) in
+      omega (arith, then, was, same, d .rises, d .answered .value-is)
 
 -- After every step on a sound table, accepted or refused, each component of each vector is the greatest clock of its origin in the
 -- server's log, or 0. (002, section 5: a vector "precisely specifies the set of Writes in its database".)

@@ -68,3 +68,51 @@ ten-rows-run buffer e =
     let fit : lengthsFit (stepWords (map (λ r. r .asks) rows)) buffer ≡ true = and-both (eqb 50 (length buffer)) true (eq-eqb 50 (length buffer) (sym e)) refl in
     ap (λ r. r .answers) (run-fits (fresh small) (stepWords (map (λ r. r .asks) rows)) buffer fit)
     ∙ ap answerWords (ap (λ xs. walk (fresh small) xs .answers) (stepsOf-stepWords (map (λ r. r .asks) rows)) ∙ ten-rows)
+
+-- The same word for word: fifty words asked, fifty answered.
+abbrev asked-words : List ℕ
+asked-words =
+    1 ∷ 0 ∷ 1 ∷ 0 ∷ 0 ∷
+    4 ∷ 0 ∷ 7 ∷ 50 ∷ 1 ∷
+    3 ∷ 0 ∷ 7 ∷ 2 ∷ 0 ∷
+    5 ∷ 0 ∷ 1 ∷ 9 ∷ 0 ∷
+    3 ∷ 0 ∷ 7 ∷ 2 ∷ 0 ∷
+    4 ∷ 0 ∷ 7 ∷ 60 ∷ 2 ∷
+    4 ∷ 0 ∷ 7 ∷ 70 ∷ 1 ∷
+    3 ∷ 0 ∷ 7 ∷ 1 ∷ 0 ∷
+    5 ∷ 1 ∷ 0 ∷ 9 ∷ 0 ∷
+    3 ∷ 0 ∷ 7 ∷ 3 ∷ 0 ∷ []
+
+abbrev answered-words : List ℕ
+answered-words =
+    0 ∷ 0 ∷ 0 ∷ 0 ∷ 0 ∷
+    0 ∷ 0 ∷ 0 ∷ 1 ∷ 50 ∷
+    6 ∷ 0 ∷ 0 ∷ 0 ∷ 0 ∷
+    0 ∷ 1 ∷ 0 ∷ 0 ∷ 1 ∷
+    0 ∷ 1 ∷ 0 ∷ 1 ∷ 50 ∷
+    0 ∷ 1 ∷ 1 ∷ 2 ∷ 60 ∷
+    0 ∷ 0 ∷ 0 ∷ 2 ∷ 70 ∷
+    6 ∷ 0 ∷ 0 ∷ 0 ∷ 0 ∷
+    0 ∷ 0 ∷ 1 ∷ 0 ∷ 1 ∷
+    0 ∷ 0 ∷ 1 ∷ 2 ∷ 60 ∷ []
+
+pub ten-rows-words : (buffer : List ℕ) → length buffer ≡ 50 → run (fresh small) asked-words buffer .answers ≡ answered-words
+unfolding stepWords answerWords
+ten-rows-words = ten-rows-run
+
+-- And the forty-eight words of the table then: header, two server heads, two logs of four places, one slot.
+pub ten-rows-table : walk (fresh small) (map (λ r. r .asks) rows) .table
+    ≡ 2 ∷ 4 ∷ 1 ∷ 0 ∷
+    2 ∷ 2 ∷ 3 ∷
+    1 ∷ 2 ∷ 2 ∷
+    0 ∷ 1 ∷ 7 ∷ 50 ∷
+    0 ∷ 2 ∷ 7 ∷ 70 ∷
+    1 ∷ 2 ∷ 7 ∷ 60 ∷
+    0 ∷ 0 ∷ 0 ∷ 0 ∷
+    0 ∷ 1 ∷ 7 ∷ 50 ∷
+    1 ∷ 2 ∷ 7 ∷ 60 ∷
+    0 ∷ 0 ∷ 0 ∷ 0 ∷
+    0 ∷ 0 ∷ 0 ∷ 0 ∷
+    2 ∷ 1 ∷ 2 ∷ 2 ∷ 2 ∷ 2 ∷ []
+unfolding keep first orElse blocks row part upd below all zeros implies dominates join greatest before same insert insertAll lastOn lacking follow inRange goesOn ordered ofOrigin upTo greatestClock greatestOf sameAll agrees spelled places entry entries within withVector withLog withSlot header vectorAt countAt logAt slotWidth slotAt size headWords slotWords encode sizeOf logPart slotPart sessionOf slotOf decode ruleA ruleB ruleC ruleD ruleE slotSound ruleF soundAt sound fresh reachInRange openInRange closeInRange readInRange writeInRange exchangeInRange ifInRange ofKind asked refused done readYourWrites monotonicReads writesFollowReads monotonicWrites upToDate upToDateToRead upToDateToWrite hasRoom mayWriteTo reaches startOf next onwards around choose refuse newSession opening closing readAnswer afterRead readFrom reading newWrite afterWrite accepted writeAnswer writeTo writing goingOver sent received exchangeAnswer exchanging obeyed rule written step onward walk
+ten-rows-table = refl

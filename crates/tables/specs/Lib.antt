@@ -1,4 +1,5 @@
 pub mod Size
+pub mod SizeLaws
 pub mod State
 pub mod Layout
 pub mod Sound

@@ -1,4 +1,5 @@
 -- A fresh table is the words of the empty state, and what making answers. Assumes nothing.
+use Rattle.tables.specs.SizeLaws.{Within, within-exactly}
 use Prim.Native.Nat.{ℕ, _+_, _-_, _*_}
 use mathlib.Core.Bool.{true, false}
 use mathlib.Core.List.{List, [], _∷_, _++_}
@@ -9,7 +10,7 @@ use borrow.Author.Tests.{eqb-true, eqb-false, eq-eqb, ne-eqb}
 use lib.Dec.{eqb}
 use lib.ListN.{length, replicate, replicate-append-replicate}
 use Rattle.words.specs.BlockLaws.{row-replicate, blocks-replicate}
-use Rattle.words.specs.TestLaws.{cond-true, cond-false, either}
+use Rattle.words.specs.TestLaws.{cond-true, cond-false, either, true-not-false, not-true-false}
 use Rattle.logs.specs.Places.{width, places}
 use Rattle.logs.specs.PlacesLaws.{places-nil}
 use Rattle.tables.specs.Layout.{size, headWords, slotWords, encode}
@@ -62,20 +63,20 @@ module _ (z : Size) (buffer : List ℕ) where
       ⊎-elim (λ e. ⊎-elim (λ h. fit e (eqb-true (length buffer) (size z) h)) (λ h. misfit e (eqb-false (length buffer) (size z) h))
       (either (eqb (length buffer) (size z)))) limits (either (within z))
 
-  -- "Making a table tests 2, ..": 2 exactly if N, L or P is out of range,
-  pub make-2-exactly : (making z buffer .code ≡ 2) ↔ (within z ≡ false)
+  -- "Making a table tests 2, ..": 2 exactly if N, L or P is out of its bounds,
+  pub make-2-exactly : (making z buffer .code ≡ 2) ↔ (Within z → ⊥)
   make-2-exactly = (
-    λ e. make-cases (λ l. l) (λ l h. absurd (omega (arith, ap (λ m. m .code) (make-length l h))))
+    λ e b. make-cases (λ l. true-not-false (within-exactly z .1 b) l) (λ l h. absurd (omega (arith, ap (λ m. m .code) (make-length l h))))
         (λ l h. absurd (omega (arith, ap (λ m. m .code) (make-done l h)))),
-    λ l. ap (λ m. m .code) (make-limits l),
+    λ n. ap (λ m. m .code) (make-limits (not-true-false (within z) (λ h. n (within-exactly z .0 h)))),
   )
 
   -- ".. then 8": 8 exactly if they are in range and the buffer's length is not exact.
-  pub make-8-exactly : (making z buffer .code ≡ 8) ↔ ((within z ≡ true) × (length buffer ≡ size z → ⊥))
+  pub make-8-exactly : (making z buffer .code ≡ 8) ↔ (Within z × (length buffer ≡ size z → ⊥))
   make-8-exactly = (
-    λ e. make-cases (λ l. absurd (omega (arith, ap (λ m. m .code) (make-limits l)))) (λ l h. (l, h))
+    λ e. make-cases (λ l. absurd (omega (arith, ap (λ m. m .code) (make-limits l)))) (λ l h. (within-exactly z .0 l, h))
         (λ l h. absurd (omega (arith, ap (λ m. m .code) (make-done l h)))),
-    λ l. ap (λ m. m .code) (make-length (l .0) (l .1)),
+    λ l. ap (λ m. m .code) (make-length (within-exactly z .1 (l .0)) (l .1)),
   )
 
   -- ".. and writes nothing if refused."

@@ -21,14 +21,17 @@ shows-server (shows-nothing h a) = a .server-is
 shows-server (shows-last w l a) = a .server-is
 
 module _ {z : Size} {s : State} {t : List ℕ} (means : Means z s t) (x : Step) (k : ℕ) where
+  -- An accepted read did what is said of it,
   pub read-did : (i : ℕ) → Reads t x k i → ReadDone z s k (x .b) (x .c) (step t x .answer) (rule z s x .state)
   read-did i r =
       subst (λ (m : ℕ). ReadDone z s m (x .b) (x .c) (step t x .answer) (rule z s x .state)) (r .slot)
       (read-done (means .state) (accepted-effect means x (r .accepted) (reads (x .a) (x .b) (x .c)) (asked-read z x (r .kind))) (r .accepted))
 
+  -- at the server that it named.
   pub read-at : (i : ℕ) (r : Reads t x k i) → read-did i r .server ≡ i
   read-at i r = sym (shows-server (read-did i r .shows)) ∙ r .server
 
+  -- And so did an accepted write.
   pub write-did : (w : Write) → Writes t x k w → WriteDone z s k (x .b) (x .c) (x .d) (step t x .answer) (rule z s x .state)
   write-did w r =
       subst (λ (m : ℕ). WriteDone z s m (x .b) (x .c) (x .d) (step t x .answer) (rule z s x .state)) (r .slot)

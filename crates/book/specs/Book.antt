@@ -22,10 +22,12 @@ pub record BookSession : Type 0 where
   pub readSet : List Write
   pub writeSet : List Write
 
+-- A slot is shut, or has a session.
 pub data BookSlot : Type 0 where
   shut : BookSlot
   live : BookSession → BookSlot
 
+-- What each server holds in the order of arrival, and the slots.
 pub record Book : Type 0 where
   pub arrived : ℕ → List Write
   pub slot : ℕ → BookSlot
@@ -38,12 +40,14 @@ blank = record { arrived = λ i. []; slot = λ k. shut }
 unfoldable pub held : Book → ℕ → List Write
 held b i = b .arrived i
 
--- What a read of the item depends on, of all that its server holds: "a read is taken to depend on all that its server held".
+-- What a read of the item depends on, of all that its server holds. The buyer's third demand: "a read is taken to depend on all
+-- that its server held".
 unfoldable pub relevant : ℕ → List Write → List Write
 relevant item holds = holds
 
 -- ---- sets of writes
 
+-- The write stands in the list.
 unfoldable pub member : Write → List Write → Bool
 member w [] = false
 member w (x ∷ xs) = same w x || member w xs
@@ -63,6 +67,7 @@ included forReads forWrites q list =
 unfoldable pub mayRead : BookSession → List Write → Bool
 mayRead q list = included monotonicReads readYourWrites q list
 
+-- A write likewise: the read-set if WFR, the write-set if MW.
 unfoldable pub mayWrite : BookSession → List Write → Bool
 mayWrite q list = included writesFollowReads monotonicWrites q list
 
@@ -98,6 +103,7 @@ leastFirst (suc k) (w ∷ ws) = least w ws ∷ leastFirst k (keep (λ x. not (sa
 
 -- ---- the steps
 
+-- What the book answers, and the book then.
 pub record BookOutcome : Type 0 where
   pub answer : Answer
   pub book : Book
@@ -110,6 +116,7 @@ bare code = record { code = code; server = 0; origin = 0; clock = 0; value = 0 }
 unfoldable pub bookRefuse : ℕ → Book → BookOutcome
 bookRefuse code b = record { answer = bare code; book = b }
 
+-- One slot replaced.
 unfoldable pub withBookSlot : Book → ℕ → BookSlot → Book
 withBookSlot b k o = record { arrived = b .arrived; slot = upd (b .slot) k o }
 
@@ -121,10 +128,12 @@ withArrived b i ws = record { arrived = upd (b .arrived) i (b .arrived i ++ ws);
 unfoldable pub bookNewSession : ℕ → BookSession
 bookNewSession g = record { guarantees = g; start = 0; readSet = []; writeSet = [] }
 
+-- Code 3: an open slot.
 unfoldable pub bookOpening : Book → ℕ → ℕ → BookSlot → BookOutcome
 bookOpening b k g shut = record { answer = bare 0; book = withBookSlot b k (live (bookNewSession g)) }
 bookOpening b k g (live q) = bookRefuse 3 b
 
+-- Code 3: a closed slot.
 unfoldable pub bookClosing : Book → ℕ → BookSlot → BookOutcome
 bookClosing b k shut = bookRefuse 3 b
 bookClosing b k (live q) = record { answer = bare 0; book = withBookSlot b k shut }
@@ -135,15 +144,18 @@ unfoldable pub bookAnswer : ℕ → Option Write → Answer
 bookAnswer i none = record { code = 0; server = i; origin = 0; clock = 0; value = 0 }
 bookAnswer i (some w) = record { code = 0; server = i; origin = w .origin; clock = w .clock; value = w .value }
 
+-- The session after a read at server i of which it saw these writes.
 unfoldable pub bookAfterRead : BookSession → ℕ → List Write → BookSession
 bookAfterRead q i seen = record { guarantees = q .guarantees; start = i; readSet = seen ++ q .readSet; writeSet = q .writeSet }
 
+-- Nobody up to date is 6.
 unfoldable pub bookReadFrom : Book → ℕ → ℕ → BookSession → Option ℕ → BookOutcome
 bookReadFrom b k item q none = bookRefuse 6 b
 bookReadFrom b k item q (some i) =
     let next = bookAfterRead q i (relevant item (held b i)) in
     record { answer = bookAnswer i (newestOn item (held b i)); book = withBookSlot b k (live next) }
 
+-- 3, then 5, then the search.
 unfoldable pub bookReading : Size → Book → ℕ → ℕ → ℕ → BookSlot → BookOutcome
 bookReading z b k item reach shut = bookRefuse 3 b
 bookReading z b k item reach (live q) =
@@ -158,6 +170,7 @@ bookNewWrite b i item value = record { origin = i; clock = suc (latestClock (hel
 unfoldable pub bookAfterWrite : BookSession → ℕ → Write → BookSession
 bookAfterWrite q i w = record { guarantees = q .guarantees; start = i; readSet = q .readSet; writeSet = w ∷ q .writeSet }
 
+-- The write arrives at its server and in the session's write-set.
 unfoldable pub bookAccepted : Book → ℕ → BookSession → ℕ → Write → BookOutcome
 bookAccepted b k q i w =
     let answer : Answer = record { code = 0; server = i; origin = i; clock = w .clock; value = w .value } in
@@ -173,9 +186,11 @@ bookWriteTo b k item value q (some i) (some j) = bookAccepted b k q j (bookNewWr
 unfoldable pub freePlaces : Size → Book → ℕ → ℕ
 freePlaces z b i = z .l - length (b .arrived i)
 
+-- There is one.
 unfoldable pub hasPlace : Size → Book → ℕ → Bool
 hasPlace z b i = ltb 0 (freePlaces z b i)
 
+-- 3, then 5, then the two searches.
 unfoldable pub bookWriting : Size → Book → ℕ → ℕ → ℕ → ℕ → BookSlot → BookOutcome
 bookWriting z b k item value reach shut = bookRefuse 3 b
 bookWriting z b k item value reach (live q) =
@@ -194,6 +209,7 @@ bookExchanging z b source target most =
     let answer : Answer = record { code = 0; server = target; origin = source; clock = 0; value = length gone } in
     cond (eqb source target) (bookRefuse 4 b) (record { answer = answer; book = withArrived b target gone })
 
+-- Any step.
 unfoldable pub bookStep : Size → Book → Op → BookOutcome
 bookStep z b bad = bookRefuse 2 b
 bookStep z b (opens k g) = bookOpening b k g (b .slot k)

@@ -35,12 +35,15 @@ module _ {z : Size} {s : State} {t : List ℕ} (means : Means z s t) where
   unfolding database
   database-is i = ap (λ u. u .log i) (means-state means)
 
+  -- From the words to the state,
   pub stored : (i : ℕ) (w : Write) → Stores t i w → In w (s .log i)
   stored i w m = subst (λ (g : List Write). In w g) (database-is i) m
 
+  -- and back.
   pub stores : (i : ℕ) (w : Write) → In w (s .log i) → Stores t i w
   stores i w m = subst (λ (g : List Write). In w g) (sym (database-is i)) m
 
+-- A table after a schedule means the state after it.
 pub means-after : {z : Size} {s : State} {t : List ℕ} → Means z s t → (xs : List Step) → Means z (stateAfter z s xs) (after t xs)
 unfolding stateAfter after walk onward
 means-after means [] = means

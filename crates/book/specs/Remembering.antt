@@ -40,11 +40,13 @@ module _ {z : Size} {s : State} (sound : SoundState z s) where
 
 -- What the check of a server asks, guarantee by guarantee.
 module _ (forReads forWrites : ℕ → Bool) (n : ℕ) (q : Session) (v : ℕ → ℕ) (h : upToDate forReads forWrites n q v ≡ true) where
+  -- The first asks for the read-vector,
   pub checked-reads : forReads (q .guarantees) ≡ true → dominates n v (q .readVector) ≡ true
   unfolding upToDate
   checked-reads g =
       implies-use (forReads (q .guarantees)) _ (and-left (implies (forReads (q .guarantees)) (dominates n v (q .readVector))) _ h) g
 
+  -- the second for the write-vector.
   pub checked-writes : forWrites (q .guarantees) ≡ true → dominates n v (q .writeVector) ≡ true
   unfolding upToDate
   checked-writes g =
@@ -106,9 +108,11 @@ module _ {z : Size} {s : State} {t : List ℕ} (means : Means z s t) (k : ℕ) (
         made = kept-after means xs (w .origin) w (m .made);
       }
 
+  -- By the read-vector,
   pub read-after : Remembers s k (λ q. q .readVector) w → Remembers (stateAfter z s xs) k (λ q. q .readVector) w
   read-after = remembers-after (λ q. q .readVector) (λ q r l. l .read)
 
+  -- and by the write-vector.
   pub write-after : Remembers s k (λ q. q .writeVector) w → Remembers (stateAfter z s xs) k (λ q. q .writeVector) w
   write-after = remembers-after (λ q. q .writeVector) (λ q r l. l .wrote)
 
@@ -124,6 +128,7 @@ module _ {z : Size} {s : State} {t : List ℕ} (means : Means z s t) (y : Step) 
       subst (λ (r : Session). guarantee (r .guarantees) ≡ true) (one-session (ap (λ u. u .slot k) (sym (means-state means)) ∙ c .is) e)
       (c .chosen)
 
+  -- A read that is served by a guarantee is served where the write is stored.
   pub read-served : (guarantee : ℕ → Bool) (vector : Session → ℕ → ℕ)
       → ((q : Session) (v : ℕ → ℕ) → upToDate monotonicReads readYourWrites (z .n) q v ≡ true → guarantee (q .guarantees) ≡ true → dominates (z .n) v (vector q) ≡ true)
       → (j : ℕ) → Reads t y k j → Chose t k guarantee → Remembers s k vector w → Stores t j w
@@ -135,6 +140,7 @@ module _ {z : Size} {s : State} {t : List ℕ} (means : Means z s t) (y : Step) 
       (checked q (s .vector (d .server)) (d .chosen .passed) (chose-here guarantee q (d .open-slot) c)) w (m .made)
       (subst (λ (p : Session). w .clock ≤ vector p (w .origin)) (one-session (m .is) (d .open-slot)) (m .covers))))
 
+  -- A write that is taken by a guarantee comes behind the write remembered.
   pub write-served : (guarantee : ℕ → Bool) (vector : Session → ℕ → ℕ)
       → ((q : Session) (v : ℕ → ℕ) → upToDate writesFollowReads monotonicWrites (z .n) q v ≡ true → guarantee (q .guarantees) ≡ true → dominates (z .n) v (vector q) ≡ true)
       → (w₂ : Write) → Writes t y k w₂ → Chose t k guarantee → Remembers s k vector w → Precedes (rule z s y .state) w w₂

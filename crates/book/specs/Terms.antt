@@ -12,7 +12,7 @@ use Rattle.steps.specs.Step.{Step}
 use Rattle.steps.specs.Calls.{step, walk}
 use Rattle.book.specs.Book.{relevant}
 
--- 002, section 2: "DB(S,t)", the writes that server i stores, read off the table's words.
+-- 002, section 2: "DB(S,t)", the writes that server i stores, read off the table's words. (Of the book the same is `held` in Book.antt.)
 unfoldable pub database : List ℕ → ℕ → List Write
 database t i = decode (sizeOf t) t .log i
 
@@ -48,7 +48,7 @@ pub record Closes (t : List ℕ) (x : Step) (k : ℕ) : Type 0 where
   pub slot : x .a ≡ k
   pub accepted : step t x .answer .code ≡ 0
 
--- "A session runs from its opening to its closing": none of the steps closes slot k.
+-- The buyer's third demand: "A session runs from its opening to its closing". None of the steps closes slot k.
 abbrev pub Lasts : ℕ → List ℕ → List Step → Type 0
 Lasts k t [] = Unit {0}
 Lasts k t (x ∷ xs) = (Closes t x k → ⊥) × Lasts k (step t x .table) xs

@@ -33,6 +33,7 @@ module _ {z : Size} {s : State} (sound : SoundState z s) (i item value : ℕ) (s
   unfolding newWrite
   new-clock x m = omega (arith, sound .covered i x m, greatest-above (z .n) (s .vector i) (x .origin) (sound .origins i x m))
 
+  -- So the new write stands after all that its server held.
   pub new-last : (x : Write) → In x (s .log i) → before x (newWrite z s i item value) ≡ true
   new-last x m = before-clock x (newWrite z s i item value) (new-clock x m)
 
@@ -49,6 +50,7 @@ module _ {z : Size} {s : State} (sound : SoundState z s) (i item value : ℕ) (s
       record { write = f .write; stored = f .stored; timed = omega (arith, f .timed, g .equal) }) (sound .attained i (g .at)))
       (greatest-attained (z .n) (s .vector i))
 
+  -- An accepted write is a growth of its server's log.
   pub write-grows : length (s .log i) < z .l → item < items
       → Grows
       z s i (newWrite z s i item value ∷ []) (s .log i ++ (newWrite z s i item value ∷ []))
@@ -98,9 +100,11 @@ module _ {z : Size} {s : State} (sound : SoundState z s) (source target most : �
   unfolding sent
   sent-lacks w m = in-take (goingOver z s source target most) (lacking (s .vector target) (s .log source)) m
 
+  -- It stands in the log of "from",
   pub sent-from : (w : Write) → In w (sent z s source target most) → In w (s .log source)
   sent-from w m = in-lacking (s .vector target) (s .log source) (sent-lacks w m)
 
+  -- and above what the vector of "to" covers.
   pub sent-above : (w : Write) → In w (sent z s source target most) → s .vector target (w .origin) < w .clock
   sent-above w m = lacking-above (s .vector target) (s .log source) (sent-lacks w m)
 
@@ -109,6 +113,7 @@ module _ {z : Size} {s : State} (sound : SoundState z s) (source target most : �
   unfolding sent goingOver
   length-sent = length-take (goingOver z s source target most) (lacking (s .vector target) (s .log source)) ∙ omega arith
 
+  -- There is room for it.
   pub sent-fits : length (sent z s source target most) ≤ z .l - length (s .log target)
   unfolding goingOver
   sent-fits = omega (arith, length-sent)
@@ -142,6 +147,7 @@ module _ {z : Size} {s : State} (sound : SoundState z s) (source target most : �
       (key-unique (sound .ascending source) x w (sent-from x (f .stored)) h (sym same, f .from)) (f .stored)))
       (either (ltb (w .clock) (x .clock)))) (follow-either (sent z s source target most) (s .vector target) (w .origin))
 
+  -- An exchange is a growth of the log of "to".
   pub exchange-grows : target < z .n
       → Grows
       z s target (sent z s source target most) (insertAll (sent z s source target most) (s .log target))

@@ -28,6 +28,7 @@ use Rattle.steps.specs.Effects.{Effect, was-refused, was-opened, was-clo
 use Rattle.steps.specs.SoundKept.{effect-sound}
 use Rattle.steps.specs.Calls.{written, step, onward, walk}
 
+-- Within the limits there is a server.
 pub within-server : (z : Size) → within z ≡ true → 1 ≤ z .n
 within-server z h = within-exactly z .0 h .some-server
 
@@ -45,10 +46,12 @@ module _ {z : Size} {s : State} {t : List ℕ} (means : Means z s t) (x : Step) 
   step-means =
       cond-true (sound t) _ _ (means-sound means) ∙ ap₂ (λ y u. written y (rule y u x)) (means-size means) (means-state means)
 
+  -- It has one of the six effects.
   pub step-effect : Effect z s (asked z x) (rule z s x .answer) (rule z s x .state)
   unfolding rule
   step-effect = effect z s (within-server z (means .limits)) (means .state) (asked z x)
 
+  -- The answer is the rules' answer.
   pub step-answer : step t x .answer ≡ rule z s x .answer
   unfolding written
   step-answer = ap (λ o. o .answer) step-means
@@ -87,6 +90,7 @@ pub data Ended (r : Answer) (was now : State) : Type 0 where
   accepted : r .code ≡ 0 → Ended r was now
   rejected : (code : ℕ) → 2 ≤ code → r ≡ refused code → now ≡ was → Ended r was now
 
+-- Every effect ends in one of the two.
 pub effect-ended : {z : Size} {s : State} {o : Op} {r : Answer} {after : State} → Effect z s o r after → Ended r s after
 unfolding done writeAnswer exchangeAnswer
 effect-ended (was-refused code h) = rejected code h refl refl
@@ -121,6 +125,7 @@ refused-words t x code e same =
       same-words = same;
     }
 
+-- Whatever the code and whatever the table.
 pub step-refused : (t : List ℕ) (x : Step) → (step t x .answer .code ≡ 0 → ⊥) → Refusal t x
 step-refused t x not-done = ⊎-elim (λ h. go h (step-ended t x h)) (λ h. unsound (step-unsound t x h)) (either (sound t))
   where
@@ -146,6 +151,7 @@ unfolding walk onward
 walk-append t [] ys = refl
 walk-append t (x ∷ xs) ys = ap (onward (step t x .answer)) (walk-append (step t x .table) xs ys)
 
+-- A schedule keeps a sound table sound.
 pub walk-sound : (t : List ℕ) (xs : List Step) → sound t ≡ true → sound (walk t xs .table) ≡ true
 unfolding walk onward
 walk-sound t [] h = h
@@ -160,6 +166,7 @@ step-not-1 t x h e = go (step-ended t x h)
     go (accepted d) = omega arith
     go (rejected code l d same) = omega (arith, ap (λ r. r .code) d)
 
+-- And so no step of a schedule over a sound table does.
 pub walk-not-1 : (t : List ℕ) (xs : List Step) → sound t ≡ true → (r : Answer) → In r (walk t xs .answers) → r .code ≡ 1 → ⊥
 unfolding walk onward
 walk-not-1 t [] h r m e = in-nil m
@@ -171,6 +178,7 @@ walk-not-1 t (x ∷ xs) h r m e =
 pub schedule-sound : (z : Size) → within z ≡ true → (xs : List Step) → sound (walk (fresh z) xs .table) ≡ true
 schedule-sound z limits xs = walk-sound (fresh z) xs (fresh-sound z limits)
 
+-- The answers too.
 pub schedule-not-1 : (z : Size) → within z ≡ true → (xs : List Step) (r : Answer) → In r (walk (fresh z) xs .answers) → r .code ≡ 1 → ⊥
 schedule-not-1 z limits xs = walk-not-1 (fresh z) xs (fresh-sound z limits)
 

@@ -104,6 +104,7 @@ onwards-below n (suc k) i h j m =
     next-below : next n i < n
     next-below = cond-elim (λ (c : ℕ). c < n) (eqb (suc i) n) (λ e. omega arith) (λ e. omega (arith, eqb-false (suc i) n e))
 
+-- And so of the whole round.
 pub around-below : (n start : ℕ) → start < n → (j : ℕ) → In j (around n start) → j < n
 unfolding around
 around-below n start h = onwards-below n n start h
@@ -113,6 +114,7 @@ pub starts-last : (q : Session) (i : ℕ) → q .lastUsed ≡ suc i → startOf 
 unfolding startOf
 starts-last q i e = omega arith
 
+-- "0 if none"
 pub starts-none : (q : Session) → q .lastUsed ≡ 0 → startOf q ≡ 0
 unfolding startOf
 starts-none q e = omega arith
@@ -143,6 +145,7 @@ module _ (z : Size) (s : State) (q : Session) (i : ℕ) where
 
 -- ---- what the search found
 
+-- The server found is the first in search order that is reachable and passes.
 pub choose-some : (n start reach : ℕ) (passes : ℕ → Bool) (i : ℕ) → start < n → choose n start reach passes ≡ some i → Chosen n start reach passes i
 unfolding choose
 choose-some n start reach passes i h e =
@@ -158,6 +161,7 @@ choose-some n start reach passes i h e =
       failed = f .failed;
     }
 
+-- Where none is found, every reachable server fails.
 pub choose-none : (n start reach : ℕ) (passes : ℕ → Bool) → start < n → choose n start reach passes ≡ none
     → (i : ℕ) → i < n → reaches reach i ≡ true → passes i ≡ false
 unfolding choose

@@ -54,6 +54,7 @@ done-zeros = record { code-is = refl; server-is = refl; origin-is = refl; clock-
 
 -- ---- open and close
 
+-- An accepted open did what is said of it,
 pub open-done : {z : Size} {s : State} {k g : ℕ} {r : Answer} {after : State} → Effect z s (opens k g) r after → r .code ≡ 0 → OpenDone s k g r after
 open-done (was-refused code h) e = refused-not-0 code h e
 open-done {s = s} (was-opened {k = k} {g = g} p) e =
@@ -69,6 +70,7 @@ open-done {s = s} (was-opened {k = k} {g = g} p) e =
       rest = slot-only s k (opened (newSession g));
     }
 
+-- and so did a close,
 pub close-done : {z : Size} {s : State} {k : ℕ} {r : Answer} {after : State} → Effect z s (closes k) r after → r .code ≡ 0 → CloseDone s k r after
 close-done (was-refused code h) e = refused-not-0 code h e
 close-done {s = s} (was-closed {k = k} q p) e =
@@ -85,6 +87,7 @@ read-shows item i a (some w) e =
     shows-last w (lastOn-some item a w e) (record { code-is = refl; server-is = refl; origin-is = refl; clock-is = refl; value-is = refl })
 
 module _ {z : Size} {s : State} (sound : SoundState z s) where
+  -- a read,
   pub read-done : {k item reach : ℕ} {r : Answer} {after : State} → Effect z s (reads k item reach) r after → r .code ≡ 0
       → ReadDone z s k item reach r after
   read-done (was-refused code h) e = refused-not-0 code h e
@@ -107,6 +110,7 @@ module _ {z : Size} {s : State} (sound : SoundState z s) where
 
   -- ---- write
 
+  -- a write,
   pub write-done : {k item value reach : ℕ} {r : Answer} {after : State} → Effect z s (writes k item value reach) r after → r .code ≡ 0
       → WriteDone z s k item value reach r after
   unfolding newWrite writeAnswer accepted withSlot withVector withLog
@@ -184,6 +188,7 @@ module _ {z : Size} {s : State} (sound : SoundState z s) where
           same-slots = λ m. refl;
         }
 
+  -- and an exchange.
   pub exchange-done : {source target most : ℕ} {r : Answer} {after : State} → InRange z (exchanges source target most)
       → Effect z s (exchanges source target most) r after → r .code ≡ 0 → ExchangeDone z s source target most r after
   exchange-done range (was-refused code h) e = refused-not-0 code h e

@@ -63,11 +63,12 @@ range-exactly t x = (
     is-bad : (o : Op) → OutOfRange o → o ≡ bad
     is-bad o out-of-range = refl
 
--- 3: "open of an open slot; close, read or write on a closed one", and 4: "exchange from a server to itself".
+-- 3: "open of an open slot; close, read or write on a closed one".
 pub slot-exactly : (t : List ℕ) (x : Step)
     → (step t x .answer .code ≡ 3) ↔ ((sound t ≡ true) × WrongSlot (decode (sizeOf t) t) (asked (sizeOf t) x))
 slot-exactly t x = given-exactly t x 3 (omega arith)
 
+-- 4: "exchange from a server to itself".
 pub itself-exactly : (t : List ℕ) (x : Step) → (step t x .answer .code ≡ 4) ↔ ((sound t ≡ true) × ToItself (asked (sizeOf t) x))
 itself-exactly t x = given-exactly t x 4 (omega arith)
 
@@ -86,8 +87,8 @@ pub full-exactly : (t : List ℕ) (x : Step)
     → (step t x .answer .code ≡ 7) ↔ ((sound t ≡ true) × Full (sizeOf t) (decode (sizeOf t) t) (asked (sizeOf t) x))
 full-exactly t x = given-exactly t x 7 (omega arith)
 
--- "To an otherwise proper call, "behind" is given exactly when some server is reachable and no reachable server passes the check": the
--- table is sound, the arguments are in range, and the slot is open.
+-- The buyer's second demand: "To an otherwise proper call, "behind" is given exactly when some server is reachable and no reachable server
+-- passes the check." Proper: the table is sound, the arguments are in range, and the slot is open.
 module _ (t : List ℕ) (x : Step) (is-sound : sound t ≡ true) (k reach : ℕ) (q : Session) (is-open : decode (sizeOf t) t .slot k ≡ opened q) where
   -- Some server is reachable, and none that is passes the check.
   abbrev pub NonePasses : (Size → State → Session → ℕ → Bool) → Type 0
@@ -115,6 +116,7 @@ module _ (t : List ℕ) (x : Step) (is-sound : sound t ≡ true) (k reach : ℕ)
       one-session : {p : Session} → decode (sizeOf t) t .slot k ≡ opened p → p ≡ q
       one-session e = cc
 
+  -- A proper read answers 6 exactly if some server is reachable and none that is passes.
   pub read-behind-exactly : (item : ℕ) → asked (sizeOf t) x ≡ reads k item reach → (step t x .answer .code ≡ 6) ↔ NonePasses upToDateToRead
   read-behind-exactly item e =
       let range = subst (InRange (sizeOf t)) e (asked-inRange (sizeOf t) x) in (
@@ -125,6 +127,7 @@ module _ (t : List ℕ) (x : Step) (is-sound : sound t ≡ true) (k reach : ℕ)
       unread : Behind (sizeOf t) (decode (sizeOf t) t) (reads k item reach) → BehindBy (sizeOf t) (decode (sizeOf t) t) (upToDateToRead (sizeOf t) (decode (sizeOf t) t)) k reach
       unread (reads-behind b) = b
 
+  -- And a proper write.
   pub write-behind-exactly : (item value : ℕ) → asked (sizeOf t) x ≡ writes k item value reach
       → (step t x .answer .code ≡ 6) ↔ NonePasses upToDateToWrite
   write-behind-exactly item value e =

@@ -16,10 +16,12 @@ module _ (q : Session) (i : ℕ) (vector : ℕ → ℕ) where
   unfolding afterRead join
   read-raises j = refl
 
+  -- The write-vector stays,
   pub read-leaves : (j : ℕ) → afterRead q i vector .writeVector j ≡ q .writeVector j
   unfolding afterRead
   read-leaves j = refl
 
+  -- and so do the guarantees.
   pub read-chosen : afterRead q i vector .guarantees ≡ q .guarantees
   unfolding afterRead
   read-chosen = refl
@@ -35,18 +37,22 @@ module _ (q : Session) (i clock : ℕ) where
   unfolding afterWrite
   write-sets j e = upd-same (q .writeVector) i clock j e
 
+  -- The other components stay,
   pub write-leaves : (j : ℕ) → (j ≡ i → ⊥) → afterWrite q i clock .writeVector j ≡ q .writeVector j
   unfolding afterWrite
   write-leaves j e = upd-other (q .writeVector) i clock j e
 
+  -- and so does the read-vector.
   pub write-reads : (j : ℕ) → afterWrite q i clock .readVector j ≡ q .readVector j
   unfolding afterWrite
   write-reads j = refl
 
+  -- The guarantees stay.
   pub write-chosen : afterWrite q i clock .guarantees ≡ q .guarantees
   unfolding afterWrite
   write-chosen = refl
 
+  -- "last-used is set"
   pub write-uses : afterWrite q i clock .lastUsed ≡ suc i
   unfolding afterWrite
   write-uses = refl
@@ -57,6 +63,7 @@ module _ (s : State) (k : ℕ) (q : Session) (i : ℕ) (w : Write) where
   unfolding accepted withSlot withVector withLog
   accepted-log = upd-same (s .log) i (s .log i ++ (w ∷ [])) i refl
 
+  -- The server's own component becomes the clock.
   pub accepted-clock : accepted s k q i w .vector i i ≡ w .clock
   unfolding accepted withSlot withVector withLog
   accepted-clock =

@@ -30,6 +30,7 @@ step-length t x =
     ∙ sym (ap length (was .words) ∙ length-encode (sizeOf t) _ (λ i l. was .state .room i))))
     (λ h. ap (λ o. length (o .table)) (step-unsound t x h)) (either (sound t))
 
+-- And so no schedule does.
 pub walk-length : (t : List ℕ) (xs : List Step) → length (walk t xs .table) ≡ length t
 unfolding walk onward
 walk-length t [] = refl
@@ -41,6 +42,7 @@ unfolding walk onward
 walk-answers t [] = refl
 walk-answers t (x ∷ xs) = ap suc (walk-answers (step t x .table) xs)
 
+-- Five words to an answer.
 pub length-answerWords : (rs : List Answer) → length (answerWords rs) ≡ length rs * 5
 unfolding answerWords
 length-answerWords [] = refl
@@ -48,6 +50,7 @@ length-answerWords (r ∷ rs) = omega (arith, length-answerWords rs)
 
 -- ---- steps and their words
 
+-- Steps spelled as words are read back.
 pub stepsOf-stepWords : (xs : List Step) → stepsOf (stepWords xs) ≡ xs
 unfolding stepsOf stepWords
 stepsOf-stepWords [] = refl
@@ -64,6 +67,7 @@ stepWords-stepsOf (a ∷ b ∷ c ∷ d ∷ []) h = absurd (omega arith)
 stepWords-stepsOf (a ∷ b ∷ c ∷ d ∷ e ∷ ws) h =
     ap {B = List ℕ} (λ vs. a ∷ b ∷ c ∷ d ∷ e ∷ vs) (stepWords-stepsOf ws (omega arith))
 
+-- Five words to a step.
 pub length-stepWords : (xs : List Step) → length (stepWords xs) ≡ length xs * 5
 unfolding stepWords
 length-stepWords [] = refl
@@ -72,12 +76,14 @@ length-stepWords (x ∷ xs) = omega (arith, length-stepWords xs)
 -- ---- the run
 
 module _ (t steps answers : List ℕ) where
+  -- With lengths that fit a run is its steps one after another.
   pub run-fits : lengthsFit steps answers ≡ true
       → run t steps answers
       ≡ record { code = 0; table = walk t (stepsOf steps) .table; answers = answerWords (walk t (stepsOf steps) .answers) }
   unfolding run
   run-fits h = cond-true (lengthsFit steps answers) _ _ h
 
+  -- With others it answers 8 and writes nothing.
   pub run-misfits : lengthsFit steps answers ≡ false → run t steps answers ≡ record { code = 8; table = t; answers = answers }
   unfolding run
   run-misfits h = cond-false (lengthsFit steps answers) _ _ h
@@ -125,9 +131,11 @@ run-empty t = refl
 
 -- ---- one promise, one result
 
+-- Two results that the promise of a step allows are equal.
 pub step-settled : (t : List ℕ) (x : Step) (r₁ r₂ : Answer) (l₁ l₂ : List ℕ) → StepPromise t x r₁ l₁ → StepPromise t x r₂ l₂ → (r₁ ≡ r₂) × (l₁ ≡ l₂)
 step-settled t x r₁ r₂ l₁ l₂ p q = (p .answer-is ∙ sym (q .answer-is), p .table-is ∙ sym (q .table-is))
 
+-- Two results that the promise of a run allows are equal.
 pub run-settled : (t steps answers : List ℕ) (c₁ c₂ : ℕ) (l₁ l₂ a₁ a₂ : List ℕ) → RunPromise t steps answers c₁ l₁ a₁ → RunPromise t steps answers c₂ l₂ a₂
     → (c₁ ≡ c₂) × (l₁ ≡ l₂) × (a₁ ≡ a₂)
 run-settled t steps answers c₁ c₂ l₁ l₂ a₁ a₂ p q =

@@ -44,6 +44,7 @@ module _ (z : Size) (x : Step) where
       row kind guard o rest here there =
           cond-elim P (eqb (x .kind) kind) (λ t. cond-elim P guard (λ g. here (eqb-true (x .kind) kind t) g) (λ g. p)) (λ t. there)
 
+  -- What is asked lies in its ranges.
   pub asked-inRange : InRange z (asked z x)
   unfolding openInRange closeInRange readInRange writeInRange exchangeInRange
   asked-inRange =

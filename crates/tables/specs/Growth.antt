@@ -153,6 +153,7 @@ module _ {z : Size} {s : State} (sound : SoundState z s) where
         cases true = yea
         cases false = nay
 
+    -- A sound state that grew so is sound.
     pub grows-sound : SoundState z (withVector (withLog s t g) t v)
     unfolding withVector withLog
     grows-sound =

@@ -52,6 +52,7 @@ module _ (z : Size) (buffer : List ℕ) where
   unfolding making
   make-length e h = cond-true (within z) _ _ e ∙ cond-false (eqb (length buffer) (size z)) _ _ (ne-eqb (length buffer) (size z) h)
 
+  -- Else a fresh table.
   pub make-done : within z ≡ true → length buffer ≡ size z → making z buffer ≡ record { code = 0; buffer = fresh z }
   unfolding making
   make-done e h = cond-true (within z) _ _ e ∙ cond-true (eqb (length buffer) (size z)) _ _ (eq-eqb (length buffer) (size z) h)

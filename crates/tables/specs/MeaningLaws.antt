@@ -31,12 +31,14 @@ use Rattle.tables.specs.Meaning.{Means}
 -- ---- the words of a sound state pass
 
 module _ (z : Size) (s : State) (limits : within z ≡ true) (state : SoundState z s) where
+  -- They pass a,
   pub encode-ruleA : ruleA z (encode z s) ≡ true
   unfolding ruleA
   encode-ruleA =
       and-both _ _ limits (and-both _ _ (eq-eqb (getD (encode z s) 3 0) 0 (fourth-encode z s))
       (eq-eqb (length (encode z s)) (size z) (length-encode z s (λ i l. state .room i))))
 
+  -- b,
   pub encode-ruleB : ruleB z (encode z s) ≡ true
   unfolding ruleB
   encode-ruleB =
@@ -54,6 +56,7 @@ module _ (z : Size) (s : State) (limits : within z ≡ true) (state : SoundState
       (sound-ruleC state) (and-both (ruleD z s) _ (sound-ruleD state)
       (and-both (ruleE z s) _ (sound-ruleE state) (sound-ruleF state (encode z s) (slotPart-encode z s (λ i l. state .room i)))))))
 
+  -- and so all six.
   pub encode-sound : sound (encode z s) ≡ true
   unfolding sound
   encode-sound =
@@ -151,12 +154,15 @@ sound-means t h =
     }
 
 module _ {z : Size} {s : State} {t : List ℕ} (means : Means z s t) where
+  -- A table that means a sound state is sound,
   pub means-sound : sound t ≡ true
   means-sound = ap sound (means .words) ∙ encode-sound z s (means .limits) (means .state)
 
+  -- its header is the size,
   pub means-size : sizeOf t ≡ z
   means-size = ap sizeOf (means .words) ∙ sizeOf-encode z s
 
+  -- and its words decode to the state.
   pub means-state : decode (sizeOf t) t ≡ s
   means-state = ap₂ decode means-size (means .words) ∙ decode-encode z s (means .state)
 
@@ -168,11 +174,13 @@ sound-exactly t = (λ h. (sizeOf t, decode (sizeOf t) t, sound-means t h), λ m.
 pub words-kept : (t : List ℕ) → sound t ≡ true → encode (sizeOf t) (decode (sizeOf t) t) ≡ t
 words-kept t h = sym (sound-means t h .words)
 
+-- And the other way round.
 pub state-kept : (z : Size) (s : State) → SoundState z s → (sizeOf (encode z s) ≡ z) × (decode z (encode z s) ≡ s)
 state-kept z s h = (sizeOf-encode z s, decode-encode z s h)
 
 -- ---- a fresh table
 
+-- The empty state is sound.
 pub empty-sound : (z : Size) → SoundState z empty
 unfolding empty
 empty-sound z =
@@ -196,5 +204,6 @@ empty-sound z =
 pub fresh-means : (z : Size) → within z ≡ true → Means z empty (fresh z)
 fresh-means z limits = record { limits = limits; state = empty-sound z; words = fresh-encode z }
 
+-- A fresh table is sound.
 pub fresh-sound : (z : Size) → within z ≡ true → sound (fresh z) ≡ true
 fresh-sound z limits = means-sound (fresh-means z limits)

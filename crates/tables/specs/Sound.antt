@@ -1,4 +1,5 @@
--- 01, "A sound table": rules a to f, each a test on the words, in the paper's order. Assumes nothing.
+-- 01, "A sound table": rules a to f, in the paper's order. a, b and f are tests of the words, c to e of the logs and vectors that the
+-- words decode to. Assumes nothing.
 use Prim.Native.Nat.{ℕ, _+_, _*_}
 use mathlib.Core.Bool.{Bool, cond, _&&_}
 use mathlib.Core.List.{List}

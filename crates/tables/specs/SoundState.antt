@@ -1,4 +1,4 @@
--- A sound state, by membership: the form of rules b to f in which the theorems use them. `sound-exactly` in SoundLaws.antt says that a
+-- A sound state, by membership: the form of rules b to f in which the theorems use them. `sound-exactly` in MeaningLaws.antt says that a
 -- table passes the tests of Sound.antt exactly if it is the words of such a state. Assumes nothing.
 use Prim.Native.Nat.{ℕ, suc, _<_, _≤_}
 use mathlib.Core.List.{[]}

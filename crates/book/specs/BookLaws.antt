@@ -15,11 +15,6 @@ use Rattle.logs.specs.WriteLaws.{same-true, eq-same}
 use Rattle.logs.specs.Witness.{Timed}
 use Rattle.book.specs.Book.{member, includes, latestClock, missing}
 
--- Two lists have the same members.
-pub record SameMembers (g h : List Write) : Type 0 where
-  pub over : (w : Write) → In w g → In w h
-  pub back : (w : Write) → In w h → In w g
-
 -- ---- membership and inclusion
 
 -- The test of membership passes exactly for the members.

@@ -5,7 +5,7 @@ use mathlib.Core.List.{List, [], _∷_}
 use mathlib.Core.Logic.{⊎-elim}
 use mathlib.Core.Path.{_≡_, refl, sym, _∙_, ap, ap₂, subst}
 use lib.ListN.{take}
-use Rattle.words.specs.Lists.{In, here, there, keep}
+use Rattle.words.specs.Lists.{In, here, there, keep, SameMembers}
 use Rattle.words.specs.ListLaws.{in-nil, in-cons, in-keep, keep-passes, keep-in}
 use Rattle.words.specs.TestLaws.{true-not-false, not-true-false, cond-elim}
 use Rattle.words.specs.CaseLaws.{each}
@@ -13,7 +13,6 @@ use Rattle.logs.specs.Write.{Write, before, same}
 use Rattle.logs.specs.WriteLaws.{before-irrefl, same-true, eq-same, not-before-trans, not-before-self, not-before-back}
 use Rattle.logs.specs.Ascending.{Ascending, ascending-nil, ascending-cons}
 use Rattle.book.specs.Book.{least, leastFirst}
-use Rattle.book.specs.BookLaws.{SameMembers}
 
 -- The least is a write of the list.
 pub least-in : (w : Write) (ws : List Write) → In (least w ws) (w ∷ ws)

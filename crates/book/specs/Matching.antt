@@ -5,13 +5,12 @@ use mathlib.Core.List.{List}
 use mathlib.Core.Logic.{_⊎_}
 use mathlib.Core.Path.{_≡_}
 use lib.ListN.{length}
-use Rattle.words.specs.Lists.{In}
+use Rattle.words.specs.Lists.{In, SameMembers}
 use Rattle.logs.specs.Write.{Write}
 use Rattle.logs.specs.Witness.{Witness}
 use Rattle.tables.specs.State.{Session, Slot, closed, opened, State}
 use Rattle.steps.specs.Choice.{startOf}
 use Rattle.book.specs.Book.{BookSession, BookSlot, shut, live, Book, held}
-use Rattle.book.specs.BookLaws.{SameMembers}
 
 -- A clock is 0, or that of a write of the set from origin j.
 abbrev pub Reached : List Write → ℕ → ℕ → Type 0

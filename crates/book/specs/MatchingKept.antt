@@ -8,7 +8,7 @@ use native.Mathlib.Omega.{arith}
 use lib.Dec.{eqb}
 use lib.ListN.{length, length-append}
 use Rattle.words.specs.TestLaws.{cond-both}
-use Rattle.words.specs.Lists.{In, here, there, upd}
+use Rattle.words.specs.Lists.{In, here, there, upd, SameMembers}
 use Rattle.words.specs.ListLaws.{in-nil, in-cons, in-append-left, in-append-right, in-append-cases, upd-elim}
 use Rattle.words.specs.CaseLaws.{each}
 use Rattle.vectors.specs.Vector.{join}
@@ -20,7 +20,6 @@ use Rattle.tables.specs.Size.{Size}
 use Rattle.tables.specs.State.{Session, Slot, closed, opened, State, withVector, withLog, withSlot, empty}
 use Rattle.tables.specs.SoundState.{SoundState}
 use Rattle.book.specs.Book.{BookSession, BookSlot, shut, live, Book, blank, held, withBookSlot, withArrived}
-use Rattle.book.specs.BookLaws.{SameMembers}
 use Rattle.book.specs.Matching.{Reached, Covers, MatchingSession, MatchingSlot, Matching}
 
 -- ---- vectors that stand for sets

@@ -10,7 +10,7 @@ use borrow.Author.Tests.{lt-ltb, ltb-true}
 use lib.Dec.{ltb}
 use lib.ListN.{length, take}
 use Rattle.words.specs.ListLaws.{take-least}
-use Rattle.words.specs.Lists.{In}
+use Rattle.words.specs.Lists.{In, SameMembers}
 use Rattle.words.specs.Tests.{implies}
 use Rattle.words.specs.TestLaws.{same-test}
 use Rattle.words.specs.CaseLaws.{lt-or-le}
@@ -27,7 +27,7 @@ use Rattle.steps.specs.Choice.{upToDateToRead, upToDateToWrite, readYourWrites,
 use Rattle.steps.specs.Rules.{newWrite, goingOver, sent}
 use Rattle.steps.specs.Arrivals.{length-sent}
 use Rattle.book.specs.Book.{BookSession, Book, held, includes, mayRead, mayWrite, latestClock, missing, bookNewWrite, bookSent, included, hasPlace, freePlaces}
-use Rattle.book.specs.BookLaws.{SameMembers, includes-at, includes-make, in-missing, missing-not, missing-in, latestClock-above, latestClock-attained}
+use Rattle.book.specs.BookLaws.{includes-at, includes-make, in-missing, missing-not, missing-in, latestClock-above, latestClock-attained}
 use Rattle.book.specs.LeastLaws.{leastFirst-take}
 use Rattle.book.specs.Matching.{Covers, MatchingSession, Matching}
 

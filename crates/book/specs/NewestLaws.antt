@@ -8,7 +8,7 @@ use mathlib.Core.Path.{_≡_, refl, ap, subst}
 use native.Mathlib.Omega.{arith}
 use borrow.Author.Tests.{eqb-true, eqb-false}
 use lib.Dec.{eqb}
-use Rattle.words.specs.Lists.{In, here, there}
+use Rattle.words.specs.Lists.{In, here, there, SameMembers}
 use Rattle.words.specs.ListLaws.{in-nil}
 use Rattle.words.specs.TestLaws.{true-not-false, cond-elim}
 use Rattle.words.specs.CaseLaws.{each}
@@ -19,7 +19,6 @@ use Rattle.logs.specs.Ascending.{Ascending}
 use Rattle.logs.specs.Log.{lastOn}
 use Rattle.logs.specs.LogLaws.{lastOn-some, lastOn-none}
 use Rattle.book.specs.Book.{later, newestOn}
-use Rattle.book.specs.BookLaws.{SameMembers}
 
 -- Of the writes on the item none comes later than this one.
 pub record NewestOn (item : ℕ) (ws : List Write) (w : Write) : Type 0 where

@@ -11,6 +11,7 @@ use Rattle.words.specs.TestLaws.{and-left, and-right, implies-use}
 use Rattle.vectors.specs.Vector.{dominates}
 use Rattle.vectors.specs.VectorLaws.{dominates-at}
 use Rattle.logs.specs.Write.{Write}
+use Rattle.tables.specs.StateLaws.{one-session}
 use Rattle.tables.specs.Size.{Size}
 use Rattle.tables.specs.State.{Session, opened, State}
 use Rattle.tables.specs.SoundState.{SoundState}
@@ -119,10 +120,6 @@ module _ {z : Size} {s : State} {t : List ℕ} (means : Means z s t) (k : ℕ) (
 -- ---- the later step is served by a server that stores what the session remembers
 
 module _ {z : Size} {s : State} {t : List ℕ} (means : Means z s t) (y : Step) (k : ℕ) (w : Write) where
-  -- The session that chose, the session that remembers and the session served are one.
-  one-session : {q r : Session} → s .slot k ≡ opened q → s .slot k ≡ opened r → q ≡ r
-  one-session p e = cc
-
   chose-here : (guarantee : ℕ → Bool) (q : Session) → s .slot k ≡ opened q → Chose t k guarantee → guarantee (q .guarantees) ≡ true
   chose-here guarantee q e c =
       subst (λ (r : Session). guarantee (r .guarantees) ≡ true) (one-session (ap (λ u. u .slot k) (sym (means-state means)) ∙ c .is) e)

@@ -8,6 +8,7 @@ use lib.Dec.{eqb}
 use Rattle.words.specs.ListLaws.{upd-same, upd-other, upd-elim}
 use Rattle.words.specs.TestLaws.{either}
 use Rattle.vectors.specs.VectorLaws.{join-left}
+use Rattle.tables.specs.StateLaws.{one-session}
 use Rattle.tables.specs.Size.{Size}
 use Rattle.tables.specs.State.{Session, closed, opened, State, withVector, withLog, withSlot}
 use Rattle.tables.specs.SoundState.{SoundState, SoundSession, SoundSlot}
@@ -47,10 +48,6 @@ still-set s m r k q e h =
     (λ t. record { session = q; is = upd-other (s .slot) m (opened r) k (eqb-false k m t) ∙ e; later = later-refl q }) (either (eqb k m))
 
 module _ {z : Size} {s : State} (sound : SoundState z s) (k : ℕ) (q : Session) (e : s .slot k ≡ opened q) where
-  -- Of one open slot there is one session.
-  same-session : {r : Session} → s .slot k ≡ opened r → r ≡ q
-  same-session p = cc
-
   read-later : (i : ℕ) (v : ℕ → ℕ) → Later q (afterRead q i v)
   unfolding afterRead
   read-later i v = record { chosen = refl; read = join-left (q .readVector) v; wrote = λ j. omega arith }
@@ -84,9 +81,9 @@ module _ {z : Size} {s : State} (sound : SoundState z s) (k : ℕ) (q : Session)
       (λ t. record { session = q; is = upd-other (s .slot) m closed k (eqb-false k m t) ∙ e; later = later-refl q }) (either (eqb k m))
   effect-still (was-read {k = m} r i p c) lasts =
       still-set s m (afterRead r i (s .vector i)) k q e
-      (λ d. subst (λ (t : Session). Later q (afterRead t i (s .vector i))) (sym (same-session (ap (s .slot) d ∙ p))) (read-later i (s .vector i)))
+      (λ d. subst (λ (t : Session). Later q (afterRead t i (s .vector i))) (sym (one-session (ap (s .slot) d ∙ p) e)) (read-later i (s .vector i)))
   effect-still (was-written {k = m} {item = item} {value = value} r i p c) lasts =
       still-set _ m (afterWrite r i (newWrite z s i item value .clock)) k q e (λ d. subst
-      (λ (t : Session). Later q (afterWrite t i (newWrite z s i item value .clock))) (sym (same-session (ap (s .slot) d ∙ p)))
+      (λ (t : Session). Later q (afterWrite t i (newWrite z s i item value .clock))) (sym (one-session (ap (s .slot) d ∙ p) e))
       (write-later i item value (c .server)))
   effect-still (was-exchanged p) lasts = record { session = q; is = e; later = later-refl q }

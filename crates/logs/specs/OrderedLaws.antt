@@ -37,7 +37,7 @@ timed-there w t = record { write = t .write; stored = there (t .stored); timed =
 pub record Ordered (least n items : ℕ) (g : List Write) : Type 0 where
   pub ascending : Ascending g
   pub origins : (w : Write) → In w g → w .origin < n
-  pub noted : (w : Write) → In w g → w .item < items
+  pub itemsFit : (w : Write) → In w g → w .item < items
   pub started : (w : Write) → In w g → least ≤ w .clock
   pub gapless : (w : Write) → In w g → (c : ℕ) → w .clock ≡ suc c → least ≤ c → Timed g c
 
@@ -60,7 +60,7 @@ module _ (n items : ℕ) where
   -- No write.
   pub ordered-nil : (least : ℕ) → Ordered least n items []
   ordered-nil least =
-      record { ascending = ascending-nil; origins = λ w m. in-nil m; noted = λ w m. in-nil m; started = λ w m. in-nil m; gapless = λ w m. in-nil m }
+      record { ascending = ascending-nil; origins = λ w m. in-nil m; itemsFit = λ w m. in-nil m; started = λ w m. in-nil m; gapless = λ w m. in-nil m }
 
   -- One write.
   pub ordered-one : (w : Write) → inRange n items w ≡ true → Ordered (w .clock) n items (w ∷ [])
@@ -68,7 +68,7 @@ module _ (n items : ℕ) where
       record {
         ascending = ascending-cons (λ x m. in-nil m) ascending-nil;
         origins = λ x m. omega (arith, ap (λ v. v .origin) (in-one m), range-origin w r);
-        noted = λ x m. omega (arith, ap (λ v. v .item) (in-one m), range-item w r);
+        itemsFit = λ x m. omega (arith, ap (λ v. v .item) (in-one m), range-item w r);
         started = λ x m. omega (arith, ap (λ v. v .clock) (in-one m));
         gapless = λ x m c e l. absurd (omega (arith, ap (λ v. v .clock) (in-one m)));
       }
@@ -81,7 +81,7 @@ module _ (n items : ℕ) where
             ascending-cons (each (λ y. before w y ≡ true) b (λ y m. before-trans w x y b (ascending-head (o .ascending) y m)))
             (o .ascending);
         origins = each (λ y. y .origin < n) (range-origin w r) (o .origins);
-        noted = each (λ y. y .item < items) (range-item w r) (o .noted);
+        itemsFit = each (λ y. y .item < items) (range-item w r) (o .itemsFit);
         started = each (λ y. w .clock ≤ y .clock) (omega arith) (λ y m. omega (arith, before-clock-le w x b, o .started y m));
         gapless =
             each (λ y. (c : ℕ) → y .clock ≡ suc c → w .clock ≤ c → Timed (w ∷ x ∷ xs) c) (λ c e l. absurd (omega arith)) (λ y m c e l.
@@ -96,7 +96,7 @@ module _ (n items : ℕ) where
       record {
         ascending = a;
         origins = λ y m. o .origins y (there m);
-        noted = λ y m. o .noted y (there m);
+        itemsFit = λ y m. o .itemsFit y (there m);
         started = first-least a;
         gapless =
             λ y m c e l.
@@ -147,7 +147,7 @@ module _ (n items : ℕ) where
   unfolding goesOn
   true-goes w [] o = refl
   true-goes w (x ∷ xs) o =
-      and-both _ _ (in-range x (o .origins x (there (here refl))) (o .noted x (there (here refl)))) (and-both _ _
+      and-both _ _ (in-range x (o .origins x (there (here refl))) (o .itemsFit x (there (here refl)))) (and-both _ _
       (ascending-head (o .ascending) x (here refl)) (and-both _ _ (⊎-elim (λ e. or-left _ _ (eq-eqb (x .clock) (w .clock) e))
       (λ e. or-right (eqb (x .clock) (w .clock)) _ (eq-eqb (x .clock) (suc (w .clock)) e)) (ordered-step w x xs o))
       (true-goes x xs (ordered-rest w x xs o))))
@@ -167,7 +167,7 @@ module _ (n items : ℕ) where
   true-ordered [] o = refl
   true-ordered (w ∷ ws) o =
       let e : w .clock ≡ 1 = ordered-first w ws o in
-      and-both _ _ (in-range w (o .origins w (here refl)) (o .noted w (here refl)))
+      and-both _ _ (in-range w (o .origins w (here refl)) (o .itemsFit w (here refl)))
       (and-both _ _ (eq-eqb (w .clock) 1 e) (true-goes w ws (subst (λ (c : ℕ). Ordered c n items (w ∷ ws)) (sym e) o)))
 
   -- A clock grows by 1 at most from one write to the next.

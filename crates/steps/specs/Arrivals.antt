@@ -164,7 +164,7 @@ module _ {z : Size} {s : State} (sound : SoundState z s) (source target most : �
         new = λ w m. insertAll-new ws (s .log target) m;
         only = λ w m. in-insertAll ws (s .log target) m;
         newOrigin = λ w m. sound .origins source w (sent-from w m);
-        newItem = λ w m. sound .noted source w (sent-from w m);
+        newItem = λ w m. sound .itemsFit source w (sent-from w m);
         newStarted = λ w m. sound .started source w (sent-from w m);
         newGapless =
             λ w m c e.

@@ -1,19 +1,17 @@
 -- What holds of a step on words and of steps one after another, for any table. Assumes nothing.
-use Rattle.tables.specs.SizeLaws.{within-exactly}
 use Prim.Native.Nat.{ℕ, _≤_}
-use mathlib.Core.Bool.{true, false, _&&_}
+use mathlib.Core.Bool.{true, false}
 use mathlib.Core.List.{List, [], _∷_, _++_}
 use mathlib.Core.Logic.{⊎-elim, _⊎_}
 use mathlib.Core.Path.{_≡_, refl, sym, _∙_, ap, ap₂, subst, subst₂}
 use native.Mathlib.Omega.{arith}
-use borrow.Author.Tests.{leb-true}
-use lib.Dec.{leb}
 use lib.ListN.{length, replicate}
 use Rattle.words.specs.Lists.{In}
 use Rattle.words.specs.ListLaws.{in-nil, in-cons}
-use Rattle.words.specs.TestLaws.{cond-true, cond-false, either, and-left}
+use Rattle.words.specs.TestLaws.{cond-true, cond-false, either}
 use Rattle.logs.specs.Log.{lastOn}
-use Rattle.tables.specs.Size.{Size, within, mostServers}
+use Rattle.tables.specs.SizeLaws.{within-exactly}
+use Rattle.tables.specs.Size.{Size, within}
 use Rattle.tables.specs.State.{State}
 use Rattle.tables.specs.Layout.{sizeOf, encode, decode}
 use Rattle.tables.specs.Make.{fresh}

@@ -1,5 +1,4 @@
 -- What holds of the search order and of reach. Assumes nothing.
-use Rattle.words.specs.Tests.{all}
 use Prim.Native.Nat.{ℕ, zero, suc, _+_, _-_, _/_, _%_, _^_, _<_, _≤_}
 use mathlib.Core.Bool.{Bool, true, false, _&&_, cond}
 use mathlib.Core.List.{List, [], _∷_, _++_}
@@ -11,6 +10,7 @@ use native.Mathlib.Omega.{arith}
 use borrow.Author.Tests.{eqb-true, eqb-false, eq-eqb, ne-eqb, ltb-true, lt-ltb}
 use lib.ListN.{length}
 use lib.Dec.{eqb}
+use Rattle.words.specs.Tests.{all}
 use Rattle.words.specs.CaseLaws.{lt-or-le}
 use Rattle.words.specs.Lists.{In, here, there}
 use Rattle.words.specs.ListLaws.{in-nil, in-cons, in-append-left, in-append-right, Found, first-found, first-none}

@@ -1,15 +1,16 @@
 -- Demand 2, of the step on words that the delivered calls promise. Assumes nothing.
-use Rattle.tables.specs.LayoutLaws.{slotPart-encode, count-encode}
-use Rattle.words.specs.Tests.{zeros}
-use lib.ListN.{getD, length}
 use Prim.Native.Nat.{ℕ, _<_, _≤_, _+_, _*_}
 use mathlib.Core.Bool.{Bool, true, false}
 use mathlib.Core.List.{List}
 use mathlib.Core.Logic.{⊎-elim, _↔_, _⊎_, inl, inr}
 use mathlib.Core.Path.{_≡_, sym, _∙_, ap, subst, refl}
 use native.Mathlib.Omega.{arith}
+use lib.ListN.{getD, length}
+use Rattle.words.specs.Tests.{zeros}
 use Rattle.words.specs.TestLaws.{either, not-true-false, replicate-zeros}
 use Rattle.logs.specs.LogTests.{greatestOf}
+use Rattle.tables.specs.StateLaws.{one-session}
+use Rattle.tables.specs.LayoutLaws.{slotPart-encode, count-encode}
 use Rattle.tables.specs.Size.{Size}
 use Rattle.tables.specs.State.{Session, opened, State, closed}
 use Rattle.tables.specs.Layout.{sizeOf, decode, slotPart, slotWords, countAt}
@@ -42,14 +43,14 @@ pub given-exactly : (t : List ℕ) (x : Step) (c : ℕ) → 2 ≤ c
     → (step t x .answer .code ≡ c) ↔ ((sound t ≡ true) × Given (sizeOf t) (decode (sizeOf t) t) (asked (sizeOf t) x) c)
 unfolding refused rule
 given-exactly t x c l = (
-  λ e. ⊎-elim (λ h. (h, of t x h c l .0 (ap (λ r. r .code) (sym (step-answer (sound-means t h) x)) ∙ e)))
+  λ e. ⊎-elim (λ h. (h, by-rules t x h c l .0 (ap (λ r. r .code) (sym (step-answer (sound-means t h) x)) ∙ e)))
       (λ h. absurd (omega (arith, ap (λ o. o .answer .code) (step-unsound t x h)))) (either (sound t)),
-  λ g. ap (λ r. r .code) (step-answer (sound-means t (g .0)) x) ∙ of t x (g .0) c l .1 (g .1),
+  λ g. ap (λ r. r .code) (step-answer (sound-means t (g .0)) x) ∙ by-rules t x (g .0) c l .1 (g .1),
 )
   where
-    of : (t : List ℕ) (x : Step) → sound t ≡ true → (c : ℕ) → 2 ≤ c
+    by-rules : (t : List ℕ) (x : Step) → sound t ≡ true → (c : ℕ) → 2 ≤ c
         → (rule (sizeOf t) (decode (sizeOf t) t) x .answer .code ≡ c) ↔ Given (sizeOf t) (decode (sizeOf t) t) (asked (sizeOf t) x) c
-    of t x h c l =
+    by-rules t x h c l =
         let means : Means (sizeOf t) (decode (sizeOf t) t) t = sound-means t h in
         code-exactly (sizeOf t) (decode (sizeOf t) t) (within-server (sizeOf t) (means .limits)) (means .state) (asked (sizeOf t) x) c l
 
@@ -100,7 +101,7 @@ module _ (t : List ℕ) (x : Step) (is-sound : sound t ≡ true) (k reach : ℕ)
       → BehindBy (sizeOf t) (decode (sizeOf t) t) (passes (sizeOf t) (decode (sizeOf t) t)) k reach ↔ NonePasses passes
   none-passes passes range = (
     λ b.
-        let same : b .session ≡ q = one-session (b .is) in (
+        let same : b .session ≡ q = one-session (b .is) is-open in (
           reach-some (sizeOf t .n) reach range (b .reached),
           λ i l r. subst (λ (p : Session). passes (sizeOf t) (decode (sizeOf t) t) p i ≡ false) same (b .stale i l r),
         ),
@@ -112,9 +113,6 @@ module _ (t : List ℕ) (x : Step) (is-sound : sound t ≡ true) (k reach : ℕ)
           stale = n .1;
         },
   )
-    where
-      one-session : {p : Session} → decode (sizeOf t) t .slot k ≡ opened p → p ≡ q
-      one-session e = cc
 
   -- A proper read answers 6 exactly if some server is reachable and none that is passes.
   pub read-behind-exactly : (item : ℕ) → asked (sizeOf t) x ≡ reads k item reach → (step t x .answer .code ≡ 6) ↔ NonePasses upToDateToRead

@@ -68,7 +68,7 @@ module _ {z : Size} {s : State} (sound : SoundState z s) where
       record {
         room = sound .room;
         origins = sound .origins;
-        noted = sound .noted;
+        itemsFit = sound .itemsFit;
         ascending = sound .ascending;
         started = sound .started;
         gapless = sound .gapless;
@@ -160,7 +160,7 @@ module _ {z : Size} {s : State} (sound : SoundState z s) where
         record {
           room = λ i. at-server i (λ l u. length l ≤ z .l) (grows .fits) (sound .room i);
           origins = everywhere (λ w. w .origin < z .n) (grows .newOrigin) (sound .origins);
-          noted = everywhere (λ w. w .item < items) (grows .newItem) (sound .noted);
+          itemsFit = everywhere (λ w. w .item < items) (grows .newItem) (sound .itemsFit);
           ascending = λ i. at-server i (λ l u. Ascending l) (grows .ordered) (sound .ascending i);
           started = everywhere (λ w. 1 ≤ w .clock) (grows .newStarted) (sound .started);
           gapless =

@@ -1,6 +1,7 @@
 pub mod Size
 pub mod SizeLaws
 pub mod State
+pub mod StateLaws
 pub mod Layout
 pub mod Sound
 pub mod Make

@@ -1,5 +1,4 @@
 -- A fresh table is the words of the empty state, and what making answers. Assumes nothing.
-use Rattle.tables.specs.SizeLaws.{Within, within-exactly}
 use Prim.Native.Nat.{ℕ, _+_, _-_, _*_}
 use mathlib.Core.Bool.{true, false}
 use mathlib.Core.List.{List, [], _∷_, _++_}
@@ -13,6 +12,7 @@ use Rattle.words.specs.BlockLaws.{row-replicate, blocks-replicate}
 use Rattle.words.specs.TestLaws.{cond-true, cond-false, either, true-not-false, not-true-false}
 use Rattle.logs.specs.Places.{width, places}
 use Rattle.logs.specs.PlacesLaws.{places-nil}
+use Rattle.tables.specs.SizeLaws.{Within, within-exactly}
 use Rattle.tables.specs.Layout.{size, headWords, slotWords, encode}
 use Rattle.tables.specs.Make.{fresh, making, MakePromise}
 use Rattle.tables.specs.Size.{Size, within}

@@ -187,7 +187,7 @@ empty-sound z =
     record {
       room = λ i. omega arith;
       origins = λ i w m. in-nil m;
-      noted = λ i w m. in-nil m;
+      itemsFit = λ i w m. in-nil m;
       ascending = λ i. ascending-nil;
       started = λ i w m. in-nil m;
       gapless = λ i w m. in-nil m;

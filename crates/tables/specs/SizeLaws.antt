@@ -1,12 +1,11 @@
 -- The limits as plain bounds. Assumes nothing.
-use Prim.Native.Nat.{ℕ, _≤_}
-use mathlib.Core.Bool.{true, false, _&&_}
+use Prim.Native.Nat.{_≤_}
+use mathlib.Core.Bool.{true}
 use mathlib.Core.Logic.{_↔_}
 use mathlib.Core.Path.{_≡_}
 use borrow.Author.Tests.{leb-true, le-leb}
-use lib.Dec.{leb}
 use Rattle.words.specs.TestLaws.{and-left, and-right, and-both}
-use Rattle.tables.specs.Size.{Size, mostServers, mostPlaces, mostSlots, within}
+use Rattle.tables.specs.Size.{Size, within}
 
 -- 01, "Numbers": "N is 1 to 16, log places L 1 to 1,024, slots P 1 to 16."
 pub record Within (z : Size) : Type 0 where

@@ -28,7 +28,7 @@ pub record SoundState (z : Size) (s : State) : Type 0 where
   pub room : (i : ℕ) → length (s .log i) ≤ z .l
   -- c
   pub origins : (i : ℕ) (w : Write) → In w (s .log i) → w .origin < z .n
-  pub noted : (i : ℕ) (w : Write) → In w (s .log i) → w .item < items
+  pub itemsFit : (i : ℕ) (w : Write) → In w (s .log i) → w .item < items
   pub ascending : (i : ℕ) → Ascending (s .log i)
   pub started : (i : ℕ) (w : Write) → In w (s .log i) → 1 ≤ w .clock
   pub gapless : (i : ℕ) (w : Write) → In w (s .log i) → (c : ℕ) → w .clock ≡ suc (suc c) → Timed (s .log i) (suc c)

@@ -58,7 +58,7 @@ module _ (z : Size) (s : State) where
       record {
         room = room;
         origins = λ i. o i .origins;
-        noted = λ i. o i .noted;
+        itemsFit = λ i. o i .itemsFit;
         ascending = λ i. o i .ascending;
         started = λ i. o i .started;
         gapless = λ i w m k t. o i .gapless w m (suc k) t (omega arith);
@@ -86,7 +86,7 @@ module _ {z : Size} {s : State} (h : SoundState z s) where
   -- c of a sound state, at every server.
   pub sound-ordered : (i : ℕ) → Ordered 1 (z .n) items (s .log i)
   sound-ordered i =
-      record { ascending = h .ascending i; origins = h .origins i; noted = h .noted i; started = h .started i; gapless = gapless }
+      record { ascending = h .ascending i; origins = h .origins i; itemsFit = h .itemsFit i; started = h .started i; gapless = gapless }
     where
       gapless : (w : Write) → In w (s .log i) → (c : ℕ) → w .clock ≡ suc c → 1 ≤ c → Timed (s .log i) c
       gapless w m zero e l = absurd (omega arith)

@@ -13,6 +13,11 @@ pub data In {A : Type 0} (a : A) : List A → Type 0 where
   here : {x : A} {xs : List A} → a ≡ x → In a (x ∷ xs)
   there : {x : A} {xs : List A} → In a xs → In a (x ∷ xs)
 
+-- What stands in one list stands in the other.
+pub record SameMembers {A : Type 0} (g h : List A) : Type 0 where
+  pub over : (a : A) → In a g → In a h
+  pub back : (a : A) → In a h → In a g
+
 -- The elements that pass the test, in their order.
 unfoldable pub keep : {A : Type 0} → (A → Bool) → List A → List A
 keep passes [] = []

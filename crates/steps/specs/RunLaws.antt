@@ -101,7 +101,7 @@ module _ (t steps answers : List ℕ) where
   run-lengths =
       ⊎-elim (λ h.
       let r = run-fits h in
-      let same = eqb-true (length steps) (length answers) (and-left (eqb (length steps) (length answers)) (eqb (length steps % 5) 0) h) in
+      let same = eqb-true (length steps) (length answers) (and-left (eqb (length steps) (length answers)) _ h) in
       let five = eqb-true (length steps % 5) 0 (and-right (eqb (length steps) (length answers)) (eqb (length steps % 5) 0) h) in (
         ap (λ o. length (o .table)) r ∙ walk-length t (stepsOf steps),
         ap (λ o. length (o .answers)) r

@@ -104,6 +104,18 @@ reach-below n reach = (
 )
 
 module _ (z : Size) (x : Step) where
+  -- What is not proper is bad.
+  pub improper-bad : (Proper z x → ⊥) → asked z x ≡ bad
+  unfolding openInRange closeInRange readInRange writeInRange exchangeInRange
+  improper-bad h =
+      by-kind z x (λ o. o ≡ bad)
+      (λ k g. absurd (h (proper-open k (ltb-true _ _ (search and-left)) (ltb-true _ _ (search (and-left, and-right))) (eqb-true _ _ (search (and-left, and-right))) (eqb-true _ _ (search (and-left, and-right))))))
+      (λ k g. absurd (h (proper-close k (ltb-true _ _ (search and-left)) (eqb-true _ _ (search (and-left, and-right))) (eqb-true _ _ (search (and-left, and-right))) (eqb-true _ _ (search (and-left, and-right))))))
+      (λ k g. absurd (h (proper-read k (ltb-true _ _ (search and-left)) (ltb-true _ _ (search (and-left, and-right))) (reach-below (z .n) (x .c) .0 (search (and-left, and-right))) (eqb-true _ _ (search (and-left, and-right))))))
+      (λ k g. absurd (h (proper-write k (ltb-true _ _ (search and-left)) (ltb-true _ _ (search (and-left, and-right))) (reach-below (z .n) (x .d) .0 (search (and-left, and-right))))))
+      (λ k g. absurd (h (proper-exchange k (ltb-true _ _ (search and-left)) (ltb-true _ _ (search (and-left, and-right))) (eqb-true _ _ (search (and-left, and-right))))))
+      refl
+
   -- A proper step is asked for as it stands, kind by kind.
   pub serves-open : x .kind ≡ 1 → x .a < z .p → x .b < sums → x .c ≡ 0 → x .d ≡ 0 → asked z x ≡ opens (x .a) (x .b)
   unfolding asked ofKind ifInRange openInRange
@@ -148,14 +160,4 @@ module _ (z : Size) (x : Step) where
 
   -- Code 2, of the words: a step is out of range exactly if it is not proper.
   pub bad-exactly : (asked z x ≡ bad) ↔ (Proper z x → ⊥)
-  unfolding openInRange closeInRange readInRange writeInRange exchangeInRange
-  bad-exactly = (
-    λ e p. proper-asked p e,
-    λ h. by-kind z x (λ o. o ≡ bad)
-        (λ k g. absurd (h (proper-open k (ltb-true _ _ (search and-left)) (ltb-true _ _ (search (and-left, and-right))) (eqb-true _ _ (search (and-left, and-right))) (eqb-true _ _ (search (and-left, and-right))))))
-        (λ k g. absurd (h (proper-close k (ltb-true _ _ (search and-left)) (eqb-true _ _ (search (and-left, and-right))) (eqb-true _ _ (search (and-left, and-right))) (eqb-true _ _ (search (and-left, and-right))))))
-        (λ k g. absurd (h (proper-read k (ltb-true _ _ (search and-left)) (ltb-true _ _ (search (and-left, and-right))) (reach-below (z .n) (x .c) .0 (search (and-left, and-right))) (eqb-true _ _ (search (and-left, and-right))))))
-        (λ k g. absurd (h (proper-write k (ltb-true _ _ (search and-left)) (ltb-true _ _ (search (and-left, and-right))) (reach-below (z .n) (x .d) .0 (search (and-left, and-right))))))
-        (λ k g. absurd (h (proper-exchange k (ltb-true _ _ (search and-left)) (ltb-true _ _ (search (and-left, and-right))) (eqb-true _ _ (search (and-left, and-right))))))
-        refl,
-  )
+  bad-exactly = (λ e p. proper-asked p e, improper-bad)

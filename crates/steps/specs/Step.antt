@@ -1,5 +1,5 @@
 -- A step's five words, what they ask for, and an answer's five words. Assumes nothing.
-use Prim.Native.Nat.{ℕ, _/_, _^_, _<_}
+use Prim.Native.Nat.{_≤_, ℕ, _/_, _^_, _<_}
 use mathlib.Core.Path.{_≡_}
 use mathlib.Core.Bool.{Bool, cond, _&&_}
 use mathlib.Core.List.{List, [], _∷_}
@@ -68,10 +68,10 @@ asked z x = ofKind z x (x .kind)
 -- The same as a plain list of conditions: what makes a step proper. `bad-exactly` in StepLaws.antt says that `asked` gives `bad` exactly if
 -- none of these holds.
 pub data Proper (z : Size) (x : Step) : Type 0 where
-  proper-open : x .kind ≡ 1 → x .a < z .p → x .b < sums → x .c ≡ 0 → x .d ≡ 0 → Proper z x
+  proper-open : x .kind ≡ 1 → x .a < z .p → x .b ≤ 15 → x .c ≡ 0 → x .d ≡ 0 → Proper z x
   proper-close : x .kind ≡ 2 → x .a < z .p → x .b ≡ 0 → x .c ≡ 0 → x .d ≡ 0 → Proper z x
-  proper-read : x .kind ≡ 3 → x .a < z .p → x .b < items → x .c < 2 ^ z .n → x .d ≡ 0 → Proper z x
-  proper-write : x .kind ≡ 4 → x .a < z .p → x .b < items → x .d < 2 ^ z .n → Proper z x
+  proper-read : x .kind ≡ 3 → x .a < z .p → x .b ≤ 255 → x .c < 2 ^ z .n → x .d ≡ 0 → Proper z x
+  proper-write : x .kind ≡ 4 → x .a < z .p → x .b ≤ 255 → x .d < 2 ^ z .n → Proper z x
   proper-exchange : x .kind ≡ 5 → x .a < z .n → x .b < z .n → x .d ≡ 0 → Proper z x
 
 -- 01, "Steps": "An answer is five words: code, server, origin, clock, value."

@@ -1,5 +1,5 @@
 -- What is known of a step that is in range. Assumes nothing.
-use Prim.Native.Nat.{ℕ, _<_, _/_, _^_}
+use Prim.Native.Nat.{_≤_, ℕ, _<_, _/_, _^_}
 use mathlib.Core.Bool.{Bool, true, cond}
 use mathlib.Core.Logic.{_⊎_, inl, inr, _↔_}
 use mathlib.Core.Path.{_≡_, refl, ap, _∙_, subst}
@@ -109,20 +109,20 @@ module _ (z : Size) (x : Step) where
   unfolding openInRange closeInRange readInRange writeInRange exchangeInRange
   improper-bad h =
       by-kind z x (λ o. o ≡ bad)
-      (λ k g. absurd (h (proper-open k (ltb-true _ _ (search and-left)) (ltb-true _ _ (search (and-left, and-right))) (eqb-true _ _ (search (and-left, and-right))) (eqb-true _ _ (search (and-left, and-right))))))
+      (λ k g. absurd (h (proper-open k (ltb-true _ _ (search and-left)) (omega (arith, ltb-true (x .b) sums (search (and-left, and-right)))) (eqb-true _ _ (search (and-left, and-right))) (eqb-true _ _ (search (and-left, and-right))))))
       (λ k g. absurd (h (proper-close k (ltb-true _ _ (search and-left)) (eqb-true _ _ (search (and-left, and-right))) (eqb-true _ _ (search (and-left, and-right))) (eqb-true _ _ (search (and-left, and-right))))))
-      (λ k g. absurd (h (proper-read k (ltb-true _ _ (search and-left)) (ltb-true _ _ (search (and-left, and-right))) (reach-below (z .n) (x .c) .0 (search (and-left, and-right))) (eqb-true _ _ (search (and-left, and-right))))))
-      (λ k g. absurd (h (proper-write k (ltb-true _ _ (search and-left)) (ltb-true _ _ (search (and-left, and-right))) (reach-below (z .n) (x .d) .0 (search (and-left, and-right))))))
+      (λ k g. absurd (h (proper-read k (ltb-true _ _ (search and-left)) (omega (arith, ltb-true (x .b) items (search (and-left, and-right)))) (reach-below (z .n) (x .c) .0 (search (and-left, and-right))) (eqb-true _ _ (search (and-left, and-right))))))
+      (λ k g. absurd (h (proper-write k (ltb-true _ _ (search and-left)) (omega (arith, ltb-true (x .b) items (search (and-left, and-right)))) (reach-below (z .n) (x .d) .0 (search (and-left, and-right))))))
       (λ k g. absurd (h (proper-exchange k (ltb-true _ _ (search and-left)) (ltb-true _ _ (search (and-left, and-right))) (eqb-true _ _ (search (and-left, and-right))))))
       refl
 
   -- A proper step is asked for as it stands, kind by kind.
-  pub serves-open : x .kind ≡ 1 → x .a < z .p → x .b < sums → x .c ≡ 0 → x .d ≡ 0 → asked z x ≡ opens (x .a) (x .b)
+  pub serves-open : x .kind ≡ 1 → x .a < z .p → x .b ≤ 15 → x .c ≡ 0 → x .d ≡ 0 → asked z x ≡ opens (x .a) (x .b)
   unfolding asked ofKind ifInRange openInRange
   serves-open k a b c d =
       ap (ofKind z x) k
       ∙ cond-true (openInRange z x) _ _
-      (and-both _ _ (lt-ltb _ _ a) (and-both _ _ (lt-ltb _ _ b) (and-both _ _ (eq-eqb _ _ c) (eq-eqb _ _ d))))
+      (and-both _ _ (lt-ltb _ _ a) (and-both _ _ (lt-ltb (x .b) sums (omega arith)) (and-both _ _ (eq-eqb _ _ c) (eq-eqb _ _ d))))
 
   pub serves-close : x .kind ≡ 2 → x .a < z .p → x .b ≡ 0 → x .c ≡ 0 → x .d ≡ 0 → asked z x ≡ closes (x .a)
   unfolding asked ofKind ifInRange closeInRange
@@ -131,18 +131,18 @@ module _ (z : Size) (x : Step) where
       ∙ cond-true (closeInRange z x) _ _
       (and-both _ _ (lt-ltb _ _ a) (and-both _ _ (eq-eqb _ _ b) (and-both _ _ (eq-eqb _ _ c) (eq-eqb _ _ d))))
 
-  pub serves-read : x .kind ≡ 3 → x .a < z .p → x .b < items → x .c < 2 ^ z .n → x .d ≡ 0 → asked z x ≡ reads (x .a) (x .b) (x .c)
+  pub serves-read : x .kind ≡ 3 → x .a < z .p → x .b ≤ 255 → x .c < 2 ^ z .n → x .d ≡ 0 → asked z x ≡ reads (x .a) (x .b) (x .c)
   unfolding asked ofKind ifInRange readInRange
   serves-read k a b c d =
       ap (ofKind z x) k
       ∙ cond-true (readInRange z x) _ _
-      (and-both _ _ (lt-ltb _ _ a) (and-both _ _ (lt-ltb _ _ b) (and-both _ _ (reach-below (z .n) (x .c) .1 c) (eq-eqb _ _ d))))
+      (and-both _ _ (lt-ltb _ _ a) (and-both _ _ (lt-ltb (x .b) items (omega arith)) (and-both _ _ (reach-below (z .n) (x .c) .1 c) (eq-eqb _ _ d))))
 
-  pub serves-write : x .kind ≡ 4 → x .a < z .p → x .b < items → x .d < 2 ^ z .n → asked z x ≡ writes (x .a) (x .b) (x .c) (x .d)
+  pub serves-write : x .kind ≡ 4 → x .a < z .p → x .b ≤ 255 → x .d < 2 ^ z .n → asked z x ≡ writes (x .a) (x .b) (x .c) (x .d)
   unfolding asked ofKind ifInRange writeInRange
   serves-write k a b d =
       ap (ofKind z x) k
-      ∙ cond-true (writeInRange z x) _ _ (and-both _ _ (lt-ltb _ _ a) (and-both _ _ (lt-ltb _ _ b) (reach-below (z .n) (x .d) .1 d)))
+      ∙ cond-true (writeInRange z x) _ _ (and-both _ _ (lt-ltb _ _ a) (and-both _ _ (lt-ltb (x .b) items (omega arith)) (reach-below (z .n) (x .d) .1 d)))
 
   pub serves-exchange : x .kind ≡ 5 → x .a < z .n → x .b < z .n → x .d ≡ 0 → asked z x ≡ exchanges (x .a) (x .b) (x .c)
   unfolding asked ofKind ifInRange exchangeInRange

@@ -14,3 +14,4 @@ pub mod Moments
 pub mod Accepted
 pub mod Remembering
 pub mod Guarantees
+pub mod Met

@@ -2,7 +2,7 @@
 -- follows. Assumes nothing.
 use Prim.Native.Nat.{ℕ, zero, suc, _+_, _<_, _≤_}
 use mathlib.Core.Bool.{true, false, cond}
-use mathlib.Core.List.{List, [], _∷_, _++_}
+use mathlib.Core.List.{List, [], _∷_}
 use mathlib.Core.Logic.{_⊎_, inl, inr, ⊎-elim}
 use mathlib.Core.Option.{Option, none, some}
 use mathlib.Core.Path.{_≡_, refl, sym, _∙_, ap, subst}
@@ -12,7 +12,7 @@ use lib.Dec.{eqb, ltb}
 use lib.ListN.{length, take}
 use Rattle.words.specs.Lists.{In, here, there, orElse, upd}
 use Rattle.words.specs.ListLaws.{in-nil, in-cons, in-keep, keep-passes, keep-in, upd-same, upd-elim, in-take}
-use Rattle.words.specs.TestLaws.{cond-elim, cond-true, cond-false, either}
+use Rattle.words.specs.TestLaws.{cond-elim, cond-true}
 use Rattle.logs.specs.Write.{Write, before}
 use Rattle.logs.specs.WriteLaws.{SameKey, before-trans, before-total, before-asym, before-clock-le, before-not-key}
 use Rattle.logs.specs.Log.{insert, insertAll, lastOn, lacking, follow}
@@ -60,14 +60,6 @@ insert-ascending w (ascending-cons {w = y} {ws = ys} head rest) new =
   where
     after : before w y ≡ false → before y w ≡ true
     after e = ⊎-elim (λ b. b) (λ k. absurd (new y (here refl) k)) (before-total w y e)
-
--- Behind all of a log, a write goes to its end.
-pub insert-last : (w : Write) (g : List Write) → ((x : Write) → In x g → before x w ≡ true) → insert w g ≡ g ++ (w ∷ [])
-unfolding insert
-insert-last w [] h = refl
-insert-last w (y ∷ ys) h =
-    ⊎-elim (λ e. before-asym w y e (h y (here refl)))
-    (λ e. cond-false (before w y) _ _ e ∙ ap {B = List Write} (λ l. y ∷ l) (insert-last w ys (λ x m. h x (there m)))) (either (before w y))
 
 -- ---- several insertions
 

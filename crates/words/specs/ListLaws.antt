@@ -1,6 +1,6 @@
 -- What holds of membership, of what passes a test, and of functions changed at one number. Assumes nothing.
 use Prim.Native.Nat.{ℕ, zero, suc, _<_, _≤_, min}
-use mathlib.Core.Bool.{Bool, true, false, cond}
+use mathlib.Core.Bool.{Bool, true, false}
 use mathlib.Core.List.{List, [], _∷_, _++_}
 use mathlib.Core.Logic.{_⊎_, inl, inr, ⊎-elim}
 use mathlib.Core.Option.{Option, none, some}
@@ -117,13 +117,6 @@ module _ {A : Type 0} (passes : A → Bool) where
   unfolding first
   none-first [] h = refl
   none-first (x ∷ xs) h = cond-false (passes x) _ _ (h x (here refl)) ∙ none-first xs (λ b m. h b (there m))
-
--- Two tests that agree on the elements find the same.
-pub first-cong : {A : Type 0} (p q : A → Bool) (xs : List A) → ((a : A) → In a xs → p a ≡ q a) → first p xs ≡ first q xs
-unfolding first
-first-cong p q [] h = refl
-first-cong {A} p q (x ∷ xs) h =
-    ap (λ t. cond t (some x) (first p xs)) (h x (here refl)) ∙ ap (λ o. cond (q x) (some x) o) (first-cong p q xs (λ a m. h a (there m)))
 
 -- ---- functions
 

@@ -6,13 +6,13 @@ use Rattle.logs.specs.Write.{Write}
 use Rattle.tables.specs.Size.{Size}
 use Rattle.tables.specs.State.{State}
 use Rattle.tables.specs.Meaning.{Means}
-use Rattle.steps.specs.Step.{Step, reads, writes, Answer}
-use Rattle.steps.specs.StepLaws.{asked-read, asked-write}
-use Rattle.steps.specs.Rules.{rule}
-use Rattle.steps.specs.Done.{Answers, Shows, shows-nothing, shows-last, ReadDone, WriteDone}
-use Rattle.steps.specs.DoneLaws.{read-done, write-done}
-use Rattle.steps.specs.Calls.{step}
-use Rattle.steps.specs.CallLaws.{accepted-effect}
+use Rattle.rules.specs.Step.{Step, reads, writes, Answer}
+use Rattle.rules.specs.StepLaws.{asked-read, asked-write}
+use Rattle.rules.specs.Rules.{rule}
+use Rattle.rules.specs.Done.{Answers, Shows, shows-nothing, shows-last, ReadDone, WriteDone}
+use Rattle.rules.specs.DoneLaws.{read-done, write-done}
+use Rattle.rules.specs.Calls.{step}
+use Rattle.rules.specs.CallLaws.{accepted-effect}
 use Rattle.book.specs.Terms.{Reads, Writes}
 
 -- The server that a read names.

@@ -12,8 +12,8 @@ use Rattle.words.specs.Lists.{keep, upd}
 use Rattle.words.specs.Tests.{implies}
 use Rattle.logs.specs.Write.{Write, before, same}
 use Rattle.tables.specs.Size.{Size}
-use Rattle.steps.specs.Step.{Step, Op, bad, opens, closes, reads, writes, exchanges, asked, Answer}
-use Rattle.steps.specs.Choice.{readYourWrites, monotonicReads, writesFollowReads, monotonicWrites, choose}
+use Rattle.rules.specs.Step.{Step, Op, bad, opens, closes, reads, writes, exchanges, asked, Answer}
+use Rattle.rules.specs.Choice.{readYourWrites, monotonicReads, writesFollowReads, monotonicWrites, choose}
 
 -- The guarantees chosen, the server where the next search starts (the last-used one, or 0), and 002's two sets.
 pub record BookSession : Type 0 where

@@ -11,8 +11,8 @@ use Rattle.tables.specs.Layout.{sizeOf, decode}
 use Rattle.tables.specs.Sound.{sound}
 use Rattle.tables.specs.Meaning.{Means}
 use Rattle.tables.specs.MeaningLaws.{sound-means}
-use Rattle.steps.specs.Step.{Step}
-use Rattle.steps.specs.Choice.{readYourWrites, monotonicReads, writesFollowReads, monotonicWrites}
+use Rattle.rules.specs.Step.{Step}
+use Rattle.rules.specs.Choice.{readYourWrites, monotonicReads, writesFollowReads, monotonicWrites}
 use Rattle.book.specs.Terms.{Stores, DependsOn, after, Reads, Writes, Lasts, Chose}
 use Rattle.book.specs.Propagation.{Precedes}
 use Rattle.book.specs.Moments.{stateAfter, after-append, stored, stores, means-after, kept-after, precedes-after}

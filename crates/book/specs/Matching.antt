@@ -9,7 +9,7 @@ use Rattle.words.specs.Lists.{In, SameMembers}
 use Rattle.logs.specs.Write.{Write}
 use Rattle.logs.specs.Witness.{Witness}
 use Rattle.tables.specs.State.{Session, Slot, closed, opened, State}
-use Rattle.steps.specs.Choice.{startOf}
+use Rattle.rules.specs.Choice.{startOf}
 use Rattle.book.specs.Book.{BookSession, BookSlot, shut, live, Book, held}
 
 -- A clock is 0, or that of a write of the set from origin j.

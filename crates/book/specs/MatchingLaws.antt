@@ -23,9 +23,9 @@ use Rattle.logs.specs.LogLaws.{in-lacking, lacking-above, lacking-in, lacking-a
 use Rattle.tables.specs.Size.{Size}
 use Rattle.tables.specs.State.{Session, State}
 use Rattle.tables.specs.SoundState.{SoundState}
-use Rattle.steps.specs.Choice.{upToDateToRead, upToDateToWrite, readYourWrites, monotonicReads, writesFollowReads, monotonicWrites, startOf, choose, upToDate, mayWriteTo, hasRoom}
-use Rattle.steps.specs.Rules.{newWrite, goingOver, sent}
-use Rattle.steps.specs.Arrivals.{length-sent}
+use Rattle.rules.specs.Choice.{upToDateToRead, upToDateToWrite, readYourWrites, monotonicReads, writesFollowReads, monotonicWrites, startOf, choose, upToDate, mayWriteTo, hasRoom}
+use Rattle.rules.specs.Rules.{newWrite, goingOver, sent}
+use Rattle.rules.specs.Arrivals.{length-sent}
 use Rattle.book.specs.Book.{BookSession, Book, held, includes, mayRead, mayWrite, latestClock, missing, bookNewWrite, bookSent, included, hasPlace, freePlaces}
 use Rattle.book.specs.BookLaws.{includes-at, includes-make, in-missing, missing-not, missing-in, latestClock-above, latestClock-attained}
 use Rattle.book.specs.LeastLaws.{leastFirst-take}

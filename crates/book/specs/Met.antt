@@ -17,10 +17,10 @@ use Rattle.tables.specs.State.{withVector, withLog, withSlot}
 use Rattle.tables.specs.Layout.{header, vectorAt, countAt, logAt, slotWidth, slotAt, size, headWords, slotWords, encode, sizeOf, logPart, slotPart, sessionOf, slotOf, decode}
 use Rattle.tables.specs.Sound.{ruleA, ruleB, ruleC, ruleD, ruleE, slotSound, ruleF, soundAt, sound}
 use Rattle.tables.specs.Make.{fresh}
-use Rattle.steps.specs.Step.{Step, reachInRange, openInRange, closeInRange, readInRange, writeInRange, exchangeInRange, ifInRange, ofKind, asked, refused, done}
-use Rattle.steps.specs.Choice.{readYourWrites, monotonicReads, writesFollowReads, monotonicWrites, upToDateToRead, upToDateToWrite, reaches, startOf, next, onwards, around, choose, hasRoom, upToDate, mayWriteTo}
-use Rattle.steps.specs.Rules.{refuse, newSession, opening, closing, readAnswer, afterRead, readFrom, reading, newWrite, afterWrite, accepted, writeAnswer, writeTo, writing, goingOver, sent, received, exchangeAnswer, exchanging, obeyed, rule}
-use Rattle.steps.specs.Calls.{written, step, onward, walk}
+use Rattle.rules.specs.Step.{Step, reachInRange, openInRange, closeInRange, readInRange, writeInRange, exchangeInRange, ifInRange, ofKind, asked, refused, done}
+use Rattle.rules.specs.Choice.{readYourWrites, monotonicReads, writesFollowReads, monotonicWrites, upToDateToRead, upToDateToWrite, reaches, startOf, next, onwards, around, choose, hasRoom, upToDate, mayWriteTo}
+use Rattle.rules.specs.Rules.{refuse, newSession, opening, closing, readAnswer, afterRead, readFrom, reading, newWrite, afterWrite, accepted, writeAnswer, writeTo, writing, goingOver, sent, received, exchangeAnswer, exchanging, obeyed, rule}
+use Rattle.rules.specs.Calls.{written, step, onward, walk}
 use Rattle.book.specs.Terms.{database, Stores, after, Reads, Writes, Lasts, Chose}
 
 -- Two servers, four places, one slot; a session that chose all four.

@@ -9,12 +9,12 @@ use Rattle.tables.specs.Size.{Size}
 use Rattle.tables.specs.State.{Session, opened, State}
 use Rattle.tables.specs.Meaning.{Means}
 use Rattle.tables.specs.MeaningLaws.{means-state}
-use Rattle.steps.specs.Step.{Step, Answer}
-use Rattle.steps.specs.StepLaws.{asked-inRange, asked-close}
-use Rattle.steps.specs.Rules.{rule}
-use Rattle.steps.specs.SoundKept.{effect-keeps}
-use Rattle.steps.specs.Calls.{onward, walk}
-use Rattle.steps.specs.CallLaws.{step-effect, step-answer, means-next, walk-append}
+use Rattle.rules.specs.Step.{Step, Answer}
+use Rattle.rules.specs.StepLaws.{asked-inRange, asked-close}
+use Rattle.rules.specs.Rules.{rule}
+use Rattle.rules.specs.SoundKept.{effect-keeps}
+use Rattle.rules.specs.Calls.{onward, walk}
+use Rattle.rules.specs.CallLaws.{step-effect, step-answer, means-next, walk-append}
 use Rattle.book.specs.Terms.{database, Stores, after, Lasts}
 use Rattle.book.specs.Session.{Still, later-refl, later-trans, effect-still}
 use Rattle.book.specs.Propagation.{Precedes, effect-precedes}

@@ -17,13 +17,13 @@ use Rattle.logs.specs.LogLaws.{in-insertAll, insertAll-old}
 use Rattle.tables.specs.Size.{Size}
 use Rattle.tables.specs.State.{State, withVector, withLog, withSlot}
 use Rattle.tables.specs.SoundState.{SoundState}
-use Rattle.steps.specs.Done.{WriteDone}
-use Rattle.steps.specs.Step.{Op, Answer}
-use Rattle.steps.specs.StepLaws.{InRange}
-use Rattle.steps.specs.Rules.{newWrite, accepted, sent, received}
-use Rattle.steps.specs.Effects.{Effect, was-refused, was-opened, was-closed, was-read, was-written, was-exchanged}
-use Rattle.steps.specs.Arrivals.{new-clock, sent-from, sent-after}
-use Rattle.steps.specs.SoundKept.{effect-keeps}
+use Rattle.rules.specs.Done.{WriteDone}
+use Rattle.rules.specs.Step.{Op, Answer}
+use Rattle.rules.specs.StepLaws.{InRange}
+use Rattle.rules.specs.Rules.{newWrite, accepted, sent, received}
+use Rattle.rules.specs.Effects.{Effect, was-refused, was-opened, was-closed, was-read, was-written, was-exchanged}
+use Rattle.rules.specs.Arrivals.{new-clock, sent-from, sent-after}
+use Rattle.rules.specs.SoundKept.{effect-keeps}
 
 -- w₂ comes behind w₁ in write order, and no server stores w₂ without w₁.
 pub record Precedes (s : State) (w₁ w₂ : Write) : Type 0 where

@@ -17,12 +17,12 @@ use Rattle.tables.specs.State.{Session, opened, State}
 use Rattle.tables.specs.SoundState.{SoundState}
 use Rattle.tables.specs.Meaning.{Means}
 use Rattle.tables.specs.MeaningLaws.{means-state}
-use Rattle.steps.specs.Calls.{step}
-use Rattle.steps.specs.ChoiceLaws.{may-current}
-use Rattle.steps.specs.Step.{Step}
-use Rattle.steps.specs.Choice.{readYourWrites, monotonicReads, writesFollowReads, monotonicWrites, upToDateToRead, upToDateToWrite, upToDate}
-use Rattle.steps.specs.Rules.{rule}
-use Rattle.steps.specs.Done.{ReadDone, WriteDone}
+use Rattle.rules.specs.Calls.{step}
+use Rattle.rules.specs.ChoiceLaws.{may-current}
+use Rattle.rules.specs.Step.{Step}
+use Rattle.rules.specs.Choice.{readYourWrites, monotonicReads, writesFollowReads, monotonicWrites, upToDateToRead, upToDateToWrite, upToDate}
+use Rattle.rules.specs.Rules.{rule}
+use Rattle.rules.specs.Done.{ReadDone, WriteDone}
 use Rattle.book.specs.Book.{relevant}
 use Rattle.book.specs.Terms.{database, Stores, DependsOn, Reads, Writes, Lasts, Chose}
 use Rattle.book.specs.Session.{Still, Later}

@@ -9,11 +9,11 @@ use Rattle.tables.specs.Make.{fresh, making}
 use Rattle.tables.specs.MakeLaws.{made-fresh}
 use Rattle.tables.specs.Meaning.{Means}
 use Rattle.tables.specs.MeaningLaws.{fresh-means}
-use Rattle.steps.specs.Step.{Step, stepsOf, asked, Answer, answerWords}
-use Rattle.steps.specs.Rules.{rule}
-use Rattle.steps.specs.Calls.{onward, walk, lengthsFit, run}
-use Rattle.steps.specs.CallLaws.{step-answer, means-next}
-use Rattle.steps.specs.RunLaws.{run-fits}
+use Rattle.rules.specs.Step.{Step, stepsOf, asked, Answer, answerWords}
+use Rattle.rules.specs.Rules.{rule}
+use Rattle.rules.specs.Calls.{onward, walk, lengthsFit, run}
+use Rattle.rules.specs.CallLaws.{step-answer, means-next}
+use Rattle.rules.specs.RunLaws.{run-fits}
 use Rattle.book.specs.Book.{Book, blank, bookStep, bookAnswers}
 use Rattle.book.specs.Matching.{Matching}
 use Rattle.book.specs.MatchingKept.{fresh-matching}

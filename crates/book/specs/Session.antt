@@ -12,10 +12,10 @@ use Rattle.tables.specs.StateLaws.{one-session}
 use Rattle.tables.specs.Size.{Size}
 use Rattle.tables.specs.State.{Session, closed, opened, State, withVector, withLog, withSlot}
 use Rattle.tables.specs.SoundState.{SoundState, SoundSession, SoundSlot}
-use Rattle.steps.specs.Step.{Op, closes, Answer, done}
-use Rattle.steps.specs.Rules.{newSession, afterRead, afterWrite, accepted, received, newWrite}
-use Rattle.steps.specs.Effects.{Effect, was-refused, was-opened, was-closed, was-read, was-written, was-exchanged}
-use Rattle.steps.specs.Arrivals.{new-above}
+use Rattle.rules.specs.Step.{Op, closes, Answer, done}
+use Rattle.rules.specs.Rules.{newSession, afterRead, afterWrite, accepted, received, newWrite}
+use Rattle.rules.specs.Effects.{Effect, was-refused, was-opened, was-closed, was-read, was-written, was-exchanged}
+use Rattle.rules.specs.Arrivals.{new-above}
 
 -- The same session later on: the same guarantees, and vectors that did not fall.
 pub record Later (q r : Session) : Type 0 where

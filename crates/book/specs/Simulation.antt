@@ -14,9 +14,9 @@ use Rattle.logs.specs.Log.{follow}
 use Rattle.tables.specs.Size.{Size}
 use Rattle.tables.specs.State.{Session, Slot, closed, opened, State, withVector, withLog}
 use Rattle.tables.specs.SoundState.{SoundState}
-use Rattle.steps.specs.Choice.{startOf}
-use Rattle.steps.specs.Step.{Op, bad, opens, closes, reads, writes, exchanges, refused, done}
-use Rattle.steps.specs.Rules.{Outcome, refuse, newSession, opening, closing, readAnswer, afterRead, readFrom, reading, afterWrite, accepted, writeAnswer, writeTo, writing, sent, received, exchangeAnswer, exchanging, obeyed}
+use Rattle.rules.specs.Choice.{startOf}
+use Rattle.rules.specs.Step.{Op, bad, opens, closes, reads, writes, exchanges, refused, done}
+use Rattle.rules.specs.Rules.{Outcome, refuse, newSession, opening, closing, readAnswer, afterRead, readFrom, reading, afterWrite, accepted, writeAnswer, writeTo, writing, sent, received, exchangeAnswer, exchanging, obeyed}
 use Rattle.book.specs.Book.{BookSession, BookSlot, shut, live, Book, held, relevant, newestOn, latestClock, BookOutcome, bookRefuse, bookOpening, bookClosing, bookAnswer, bookReadFrom, bookReading, bookNewWrite, bookAccepted, bookWriteTo, bookWriting, bookExchanging, bookStep, withArrived, bare, bookNewSession, bookAfterRead, bookAfterWrite}
 use Rattle.book.specs.BookLaws.{latestClock-above}
 use Rattle.book.specs.NewestLaws.{newestOn-lastOn}

@@ -8,8 +8,8 @@ use Rattle.words.specs.Lists.{In}
 use Rattle.logs.specs.Write.{Write}
 use Rattle.tables.specs.State.{Session, opened}
 use Rattle.tables.specs.Layout.{sizeOf, decode}
-use Rattle.steps.specs.Step.{Step}
-use Rattle.steps.specs.Calls.{step, walk}
+use Rattle.rules.specs.Step.{Step}
+use Rattle.rules.specs.Calls.{step, walk}
 use Rattle.book.specs.Book.{relevant}
 
 -- 002, section 2: "DB(S,t)", the writes that server i stores, read off the table's words. (Of the book the same is `held` in Book.antt.)

@@ -4,8 +4,8 @@ use mathlib.Core.Bool.{true}
 use mathlib.Core.List.{List, [], _∷_, _++_}
 use mathlib.Core.Path.{_≡_, refl, sym, _∙_, ap, ap₂}
 use native.Mathlib.Omega.{arith}
-use lib.ListN.{length, take, drop, replicate, length-append, length-drop, length-replicate, take-append-drop}
-use lib.Seq.{drop-at, take-add}
+use lib.ListN.{length, getD, take, drop, replicate, length-append, length-drop, length-replicate, take-append-drop}
+use lib.Seq.{drop-at, take-add, getD-drop}
 use Rattle.words.specs.Lists.{row, part}
 use Rattle.words.specs.PartLaws.{row-part}
 use Rattle.words.specs.Tests.{zeros}
@@ -32,6 +32,16 @@ pub length-entries : (c : ℕ) (ws : List ℕ) → length (entries c ws) ≡ c
 unfolding entries
 length-entries zero ws = refl
 length-entries (suc c) ws = ap suc (length-entries c (drop width ws))
+
+-- ---- one place
+
+-- The write of a place, word by word.
+pub entry-drop : (ws : List ℕ) (a : ℕ) → record { origin = getD ws a 0; clock = getD ws (a + 1) 0; item = getD ws (a + 2) 0; value = getD ws (a + 3) 0 } ≡ entry (drop a ws)
+unfolding entry
+entry-drop ws a =
+    let at : a ≡ a + 0 = omega arith in
+    rw (getD-drop a ws 0 0, getD-drop a ws 1 0, getD-drop a ws 2 0, getD-drop a ws 3 0)
+    (ap (λ k. record { origin = getD ws k 0; clock = getD ws (a + 1) 0; item = getD ws (a + 2) 0; value = getD ws (a + 3) 0 }) at)
 
 -- ---- from writes to words and back
 

@@ -3,6 +3,7 @@ pub mod SizeLaws
 pub mod State
 pub mod StateLaws
 pub mod Layout
+pub mod Shape
 pub mod Sound
 pub mod Make
 pub mod SoundState
@@ -10,8 +11,14 @@ pub mod SlotLaws
 pub mod SoundStateLaws
 pub mod LayoutLaws
 pub mod OffsetLaws
+pub mod BoundLaws
+pub mod ShapeLaws
+pub mod Sessions
+pub mod PutLaws
 pub mod DecodeLaws
 pub mod MakeLaws
 pub mod Meaning
 pub mod MeaningLaws
+pub mod ViewLaws
 pub mod Growth
+pub mod LaidLaws

@@ -1,10 +1,10 @@
 -- The limits as plain bounds. Assumes nothing.
 use Prim.Native.Nat.{_≤_}
-use mathlib.Core.Bool.{true}
+use mathlib.Core.Bool.{true, false}
 use mathlib.Core.Logic.{_↔_}
 use mathlib.Core.Path.{_≡_}
 use borrow.Author.Tests.{leb-true, le-leb}
-use Rattle.words.specs.TestLaws.{and-left, and-right, and-both}
+use Rattle.words.specs.TestLaws.{and-left, and-right, and-both, not-true-false}
 use Rattle.tables.specs.Size.{Size, within}
 
 -- 01, "Numbers": "N is 1 to 16, log places L 1 to 1,024, slots P 1 to 16."
@@ -33,3 +33,7 @@ within-exactly z = (
       (and-both _ _ (and-both _ _ (le-leb 1 (z .l) (b .some-place)) (le-leb (z .l) 1024 (b .few-places)))
       (and-both _ _ (le-leb 1 (z .p) (b .some-slot)) (le-leb (z .p) 16 (b .few-slots)))),
 )
+
+-- It fails where a bound does.
+pub within-fails : (z : Size) → (Within z → ⊥) → within z ≡ false
+within-fails z h = not-true-false (within z) (λ e. h (within-exactly z .0 e))

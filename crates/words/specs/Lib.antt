@@ -1,8 +1,14 @@
 pub mod Lists
 pub mod Tests
 pub mod TestLaws
+pub mod CheckLaws
 pub mod ListLaws
 pub mod CaseLaws
+pub mod KeepLaws
 pub mod RowLaws
 pub mod PartLaws
 pub mod BlockLaws
+pub mod SetLaws
+pub mod SpliceLaws
+pub mod SpanLaws
+pub mod LentLaws

@@ -64,6 +64,10 @@ module _ {A : Type 0} (n : ℕ) (f : ℕ → A) (xs : List A) where
   filled-more h =
       rw (add-one, append-snoc, drop-cons xs n (f n)) (set-at (row n f) (getD xs n (f n)) (drop (suc n) xs) (f n) n (length-row n f))
 
+  -- The same of a list that is filled so far.
+  pub filled-next : {so : List A} → n < length xs → so ≡ filled n f xs → set so n (f n) ≡ filled (n + 1) f xs
+  filled-next h e = ap (λ (r : List A). set r n (f n)) e ∙ filled-more h
+
   pub filled-all : length xs ≡ n → filled n f xs ≡ row (length xs) f
   filled-all e = rw (drop-of-length-le xs {i = n} (omega arith), append-nil, e)
 

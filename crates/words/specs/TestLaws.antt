@@ -1,13 +1,15 @@
 -- What holds of tests. Assumes nothing.
-use Prim.Native.Nat.{ℕ, zero, suc, _<_}
+use Prim.Native.Nat.{ℕ, zero, suc, _+_, _<_, _≤_}
 use mathlib.Core.Bool.{Bool, true, false, cond, _&&_, _||_}
 use mathlib.Core.List.{List, [], _∷_}
 use mathlib.Core.Logic.{_⊎_, inl, inr, ⊎-elim}
 use mathlib.Core.Path.{_≡_, refl, sym, _∙_, ap, subst, ap₂}
+use native.Mathlib.Numerals.{add-one}
 use native.Mathlib.Omega.{arith}
-use borrow.Author.Tests.{eqb-true, eqb-false}
+use borrow.Author.Tests.{eqb-true, eqb-false, eq-eqb, ne-eqb}
 use lib.Dec.{eqb}
-use lib.ListN.{length, replicate}
+use lib.ListN.{length, getD, drop, replicate, drop-of-length-le}
+use lib.Seq.{drop-cons}
 use Rattle.words.specs.Tests.{all, zeros, implies}
 
 -- ---- a test's two values
@@ -79,6 +81,17 @@ unfolding implies
 implies-use true b h e = h
 implies-use false b h e = true-not-false e refl
 
+-- A condition that holds, and one that does not.
+pub implies-on : (a b : Bool) → a ≡ true → b ≡ implies a b
+unfolding implies
+implies-on true b e = refl
+implies-on false b e = true-not-false e refl
+
+pub implies-off : (a b : Bool) → a ≡ false → true ≡ implies a b
+unfolding implies
+implies-off true b e = true-not-false refl e
+implies-off false b e = refl
+
 -- ---- all
 
 pub all-at : (n : ℕ) (passes : ℕ → Bool) → all n passes ≡ true → (k : ℕ) → k < n → passes k ≡ true
@@ -116,3 +129,21 @@ replicate-zeros (suc n) = replicate-zeros n
 -- n words that are all zero.
 pub zeros-are : (n : ℕ) (ws : List ℕ) → length ws ≡ n → zeros ws ≡ true → replicate n 0 ≡ ws
 zeros-are n ws e h = ap (λ (k : ℕ). replicate k 0) (sym e) ∙ sym (zeros-replicate ws h)
+
+-- The words from place i on are zero if the next one is and the others are.
+pub zeros-next : (ws : List ℕ) (i : ℕ) → i < length ws → zeros (drop i ws) ≡ (eqb (getD ws i 0) 0 && zeros (drop (i + 1) ws))
+unfolding zeros
+zeros-next ws i h = rw (add-one, drop-cons ws i 0)
+
+-- A word that is not zero is enough to fail.
+pub zeros-fail : (ws : List ℕ) (i : ℕ) → i < length ws → zeros ws ≡ zeros (drop i ws) → (getD ws i 0 ≡ 0 → ⊥) → zeros ws ≡ false
+zeros-fail ws i h so differs = so ∙ (zeros-next ws i h ∙ ap (λ t. t && zeros (drop (i + 1) ws)) (ne-eqb (getD ws i 0) 0 differs))
+
+-- One word more.
+pub zeros-more : (ws : List ℕ) (i : ℕ) → i < length ws → zeros ws ≡ zeros (drop i ws) → getD ws i 0 ≡ 0 → zeros ws ≡ zeros (drop (i + 1) ws)
+zeros-more ws i h so is = so ∙ (zeros-next ws i h ∙ ap (λ t. t && zeros (drop (i + 1) ws)) (eq-eqb (getD ws i 0) 0 is))
+
+-- No word left.
+pub zeros-all : (ws : List ℕ) (i : ℕ) → length ws ≤ i → zeros ws ≡ zeros (drop i ws) → zeros ws ≡ true
+unfolding zeros
+zeros-all ws i h so = so ∙ ap zeros (drop-of-length-le ws {i = i} h)

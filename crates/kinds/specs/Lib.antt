@@ -1,0 +1,9 @@
+pub mod Obeys
+pub mod ComesLaws
+pub mod ChangeLaws
+pub mod SessionLaws
+pub mod ReadLaws
+pub mod GrowLaws
+pub mod WriteLaws
+pub mod ExchangeLaws
+pub mod ServedLaws

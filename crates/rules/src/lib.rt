@@ -1,0 +1,1 @@
+// Definitions and laws only: no code.

@@ -21,21 +21,27 @@ use Rattle.logs.specs.Ascending.{Ascending}
 use Rattle.logs.specs.Places.{entries}
 use Rattle.logs.specs.PlacesLaws.{length-entries}
 use Rattle.tables.specs.Size.{Size}
-use Rattle.tables.specs.State.{withLog}
+use Rattle.tables.specs.State.{State, withLog}
 use Rattle.tables.specs.Layout.{vectorAt, countAt, encode, decode, logPart}
 use Rattle.tables.specs.LayoutLaws.{vector-encode, length-encode}
 use Rattle.tables.specs.BoundLaws.{vector-within}
 use Rattle.tables.specs.ViewLaws.{room-view, vector-view, count-view, entries-view}
-use Rattle.tables.specs.PutLaws.{room-withLog}
+use Rattle.tables.specs.PutLaws.{put-vector-row, room-withLog}
 use Rattle.rules.specs.Step.{Answer, exchanges, refused}
 use Rattle.rules.specs.Rules.{goingOver, sent, received, exchangeAnswer, exchanging, obeyed}
 use Rattle.tables.specs.LaidLaws.{length-vector, vectorAt-from}
 use Rattle.logs.specs.CongLaws.{lacking-cong, follow-held}
 use Rattle.kinds.specs.Obeys.{Held, Obeys}
-use Rattle.kinds.specs.ChangeLaws.{exchange-stores}
 use Rattle.kinds.specs.ComesLaws.{comes, comes-refused}
 
 -- ---- the server that receives
+
+-- Once the writes of an exchange stand in the log, the vector follows.
+exchange-stores : (z : Size) (s : State) (i : ℕ) → i < z .n → (ws : List Write)
+    → splice (vectorAt z i 0) (z .n) (encode z (withLog s i (insertAll ws (s .log i)))) (row (z .n) (follow ws (s .vector i)))
+    ≡ encode z (received s i ws)
+unfolding received
+exchange-stores z s i h ws = put-vector-row z (withLog s i (insertAll ws (s .log i))) i h (follow ws (s .vector i))
 
 module _ {z : Size} {t : List ℕ} (held : Held z t) (i : ℕ) (h : i < z .n) (k : ℕ) (batch : List ℕ) (free : length (decode z t .log i) + k ≤ z .l)
     {grown : List ℕ} (inserted : grown ≡ encode z (withLog (decode z t) i (insertAll (entries k batch) (decode z t .log i)))) where

@@ -1,9 +1,5 @@
 pub mod Obeys
 pub mod ComesLaws
-pub mod ChangeLaws
 pub mod SessionLaws
-pub mod ReadLaws
 pub mod GrowLaws
-pub mod WriteLaws
 pub mod ExchangeLaws
-pub mod ServedLaws

@@ -62,7 +62,7 @@ pub fn exchange(t: &mut [u32], z: Table, from: usize, to: usize, most: u32) -> A
     if from == to {
         return Answer::refusal(4);
     }
-    let mut batch = [0u32; 4096];
+    let mut batch = [0u32; Table::PLACES * 4];
     let limit = smaller(most, z.l - views::count(t, z, to));
     let k = logs::sending::lacking(
         views::log(t, z, from),

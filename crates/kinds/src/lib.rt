@@ -1,13 +1,11 @@
-// The five kinds of step, each on a sound table and with arguments in range. What each answers and leaves in the table is defined in
-// crates/rules/specs/Rules.antt; the promise of each is `Obeys` in specs/Obeys.antt.
+// The kinds of step that choose no server: open, close and exchange, each on a sound table and with arguments in range. What each
+// answers and leaves in the table is defined in crates/rules/specs/Rules.antt; the promise of each is `Obeys` in specs/Obeys.antt.
 ghost use mathlib.Core.Path.{_≡_};
 ghost use Rattle.rules.specs.Step.{refused};
 ghost use Rattle.kinds.specs.Obeys.{answerOf};
 
 pub mod exchanging;
-pub mod reading;
 pub mod sessions;
-pub mod writing;
 
 // 01, "Steps": an answer's five words.
 pub struct Answer {

@@ -87,7 +87,7 @@ pub fn reading(t: &mut [u32], z: Table, x: StepWords) -> Answer
     ensures { λ r. ⌜ Obeys (shape z) (now (t .entry)) (ifInRange (readInRange (shape z) (stepOf x)) (reads (x .a) (x .b) (x .c))) (answerOf r) (now (t .exit)) ⌝ }
 {
     if read_in_range(z, x) {
-        return kinds::reading::read(t, z, x.a as usize, x.b, x.c);
+        return serving::reading::read(t, z, x.a as usize, x.b, x.c);
     }
     Answer::refusal(2)
 }
@@ -112,7 +112,7 @@ pub fn writing(t: &mut [u32], z: Table, x: StepWords) -> Answer
     ensures { λ r. ⌜ Obeys (shape z) (now (t .entry)) (ifInRange (writeInRange (shape z) (stepOf x)) (writes (x .a) (x .b) (x .c) (x .d))) (answerOf r) (now (t .exit)) ⌝ }
 {
     if write_in_range(z, x) {
-        return kinds::writing::write(t, z, x.a as usize, x.b, x.c, x.d);
+        return serving::writing::write(t, z, x.a as usize, x.b, x.c, x.d);
     }
     Answer::refusal(2)
 }

@@ -20,12 +20,12 @@ pub fn clear(a: &mut [u32])
 pub fn all_zero(a: &[u32]) -> bool
     ensures { λ r. ⌜ r ≡ zeros (now (a .entry)) ⌝ }
 {
-    let mut i = 0;
-    while i < a.len() {
-        if a[i] != 0 {
+    let mut k = 0;
+    while k < a.len() {
+        if a[k] != 0 {
             return false;
         }
-        i += 1;
+        k += 1;
     }
     true
 }
@@ -35,9 +35,9 @@ pub fn copy(b: &[u32], a: &mut [u32])
     requires { ⌜ length (now b) ≤ length (now a) ⌝ }
     ensures { λ _. ⌜ now (a .exit) ≡ now (b .entry) ++ drop (length (now (b .entry))) (now (a .entry)) ⌝ }
 {
-    let mut i = 0;
-    while i < b.len() {
-        a[i] = b[i];
-        i += 1;
+    let mut j = 0;
+    while j < b.len() {
+        a[j] = b[j];
+        j += 1;
     }
 }

@@ -9,10 +9,10 @@ use Rattle.words.proofs.all_zero.Statement.{statement}
 use Rattle.words.proofs.all_zero.Tie as tie
 
 abbrev Inv-loop : tie.InvT-loop
-Inv-loop a i₀ i = (i ≤ length a) × (zeros a ≡ zeros (drop i a))
+Inv-loop a k₀ k = (k ≤ length a) × (zeros a ≡ zeros (drop k a))
 
 abbrev μ-loop : tie.MeasureT-loop
-μ-loop a i₀ i = length a - i
+μ-loop a k₀ k = length a - k
 
 loop-holds : tie.Need-loop-holds Inv-loop μ-loop
 loop-holds c = (search needs, refl)
@@ -26,8 +26,8 @@ shared-slice-read-if1 c = search needs
 returns : tie.Need-returns Inv-loop μ-loop
 returns c = sym (zeros-fail _ _ (search needs) (c .before .before .before .loop .inv .1) (c .if1 .taken))
 
-add-i : tie.Need-add-i Inv-loop μ-loop
-add-i c = search needs
+add-k : tie.Need-add-k Inv-loop μ-loop
+add-k c = search needs
 
 loop-less : tie.Need-loop-less Inv-loop μ-loop
 loop-less c = search needs
@@ -36,7 +36,7 @@ loop-again : tie.Need-loop-again Inv-loop μ-loop
 loop-again c = (search needs, zeros-more _ _ (search needs) (c .before .before .before .loop .inv .1) (c .if1 .left))
 
 returns-2 : tie.Need-returns-2 Inv-loop μ-loop
-returns-2 c = sym (zeros-all _ (c .before .loop .i) (search needs) (c .before .loop .inv .1))
+returns-2 c = sym (zeros-all _ (c .before .loop .k) (search needs) (c .before .loop .inv .1))
 
 pub all-zero-spec : {M : Type 1} → statement M
 all-zero-spec =
@@ -48,7 +48,7 @@ all-zero-spec =
     mul-if1
     shared-slice-read-if1
     returns
-    add-i
+    add-k
     loop-less
     loop-again
     returns-2)

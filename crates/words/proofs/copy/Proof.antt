@@ -9,10 +9,10 @@ use Rattle.words.proofs.copy.Statement.{statement}
 use Rattle.words.proofs.copy.Tie as tie
 
 abbrev Inv-loop : tie.InvT-loop
-Inv-loop b a₀ i₀ a i = (i ≤ length b) × (length a ≡ length a₀) × (a ≡ filled i (λ k. getD b k 0) a₀)
+Inv-loop b a₀ j₀ a j = (j ≤ length b) × (length a ≡ length a₀) × (a ≡ filled j (λ k. getD b k 0) a₀)
 
 abbrev μ-loop : tie.MeasureT-loop
-μ-loop b a₀ i₀ a i = length b - i
+μ-loop b a₀ j₀ a j = length b - j
 
 loop-holds : tie.Need-loop-holds Inv-loop μ-loop
 loop-holds c = (search needs, refl, sym (filled-none _ _))
@@ -29,8 +29,8 @@ mul-a-2 c = search needs
 slice-write-a : tie.Need-slice-write-a Inv-loop μ-loop
 slice-write-a c = search needs
 
-add-i : tie.Need-add-i Inv-loop μ-loop
-add-i c = search needs
+add-j : tie.Need-add-j Inv-loop μ-loop
+add-j c = search needs
 
 loop-less : tie.Need-loop-less Inv-loop μ-loop
 loop-less c = search needs
@@ -38,7 +38,7 @@ loop-less c = search needs
 loop-again : tie.Need-loop-again Inv-loop μ-loop
 loop-again c =
     let at = c .before .before in
-    (search needs, search needs, filled-next (at .loop .i) (λ k. getD (at .before .args .b .now) k 0) (at .before .args .a .now) (search needs) (at .loop .inv .2))
+    (search needs, search needs, filled-next (at .loop .j) (λ k. getD (at .before .args .b .now) k 0) (at .before .args .a .now) (search needs) (at .loop .inv .2))
 
 same-length : tie.Need-same-length Inv-loop μ-loop
 same-length c = search needs
@@ -46,7 +46,7 @@ same-length c = search needs
 returns : tie.Need-returns Inv-loop μ-loop
 returns c =
     let b = c .before .before .args .b .now in
-    let all : c .before .loop .i ≡ length b = search needs in
+    let all : c .before .loop .j ≡ length b = search needs in
     c .before .loop .inv .2
     ∙ (ap (λ n. filled n (λ k. getD b k 0) (c .before .before .args .a .now)) all
     ∙ ap (λ r. r ++ drop (length b) (c .before .before .args .a .now)) (row-getD b 0 (length b) refl))
@@ -62,7 +62,7 @@ copy-spec =
     shared-slice-read-a
     mul-a-2
     slice-write-a
-    add-i
+    add-j
     loop-less
     loop-again
     same-length

@@ -1,0 +1,4 @@
+pub mod ChangeLaws
+pub mod ReadLaws
+pub mod WriteLaws
+pub mod ServedLaws

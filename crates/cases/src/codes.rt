@@ -14,13 +14,13 @@ const OPEN: [[u32; 5]; 7] = [
 ];
 
 const CLOSE: [[u32; 5]; 7] = [
+    [2, 1, 0, 0, 0],
     [2, 2, 0, 0, 0], // slot
     [2, 4294967295, 0, 0, 0],
     [2, 1, 1, 0, 0], // unused word; and the slot is closed
     [2, 1, 0, 1, 0],
     [2, 1, 0, 0, 1],
     [2, 1, 0, 0, 0], // the slot is closed
-    [2, 0, 0, 0, 0],
 ];
 
 const READ: [[u32; 5]; 13] = [
@@ -95,17 +95,40 @@ const UNSOUND: [[u32; 5]; 16] = [
     [6, 0, 0, 0, 0],
 ];
 
-pub fn all() {
+fn open_and_close() {
     let mut t = rows::after_ten_rows();
     play::play(b"open", &mut t, &OPEN);
-    t = rows::after_ten_rows();
     play::play(b"close", &mut t, &CLOSE);
-    t = rows::after_ten_rows();
+}
+
+fn read() {
+    let mut t = rows::after_ten_rows();
     play::play(b"read", &mut t, &READ);
-    play::play(b"exchange", &mut t, &EXCHANGE);
-    t = rows::after_ten_rows();
+}
+
+fn write() {
+    let mut t = rows::after_ten_rows();
     play::play(b"write", &mut t, &WRITE);
+}
+
+fn exchange() {
+    let mut t = rows::after_ten_rows();
+    play::play(b"exchange", &mut t, &EXCHANGE);
     play::play(b"no kind", &mut t, &NO_KIND);
+}
+
+// Server 0's log is full, and word 3 of the header is not 0.
+fn unsound() {
+    let mut t = rows::after_ten_rows();
+    play::play(b"unsound, before", &mut t, &[[4, 0, 7, 80, 1]]);
     t[3] = 1;
     play::play(b"unsound", &mut t, &UNSOUND);
+}
+
+pub fn all() {
+    open_and_close();
+    read();
+    write();
+    exchange();
+    unsound();
 }

@@ -79,6 +79,12 @@ const SLOTS: [[u32; 2]; 11] = [
     [47, 3],
 ];
 
+// A log of four writes.
+const COUNT_ABOVE_L: [[u32; 2]; 5] = [[4, 3], [6, 5], [23, 3], [24, 7], [25, 90]];
+
+// Server 1's write has clock 4 everywhere.
+const CLOCK_GAP: [[u32; 2]; 4] = [[5, 4], [8, 4], [19, 4], [31, 4]];
+
 // Every clock one more.
 const FIRST_CLOCK_2: [[u32; 2]; 9] = [
     [4, 3],
@@ -108,6 +114,9 @@ const FIRST_CLOCK_0: [[u32; 2]; 13] = [
     [46, 0],
     [47, 0],
 ];
+
+// The two writes with clock 2 change places.
+const ORIGINS_DOWN: [[u32; 2]; 4] = [[14, 1], [17, 60], [18, 0], [21, 70]];
 
 // Server 1 has made one write, with clock 1, and it is last in log 0.
 const CLOCKS_DOWN: [[u32; 2]; 13] = [
@@ -158,7 +167,7 @@ const A_KEY_TWICE: [[u32; 2]; 10] = [
 const HOME_LACKS: [[u32; 2]; 5] = [[7, 3], [9, 3], [35, 3], [36, 7], [37, 90]];
 
 // Log 1 is 1 1 7 60, 0 2 7 70: it lacks server 0's first write, and its vector covers the second.
-const COVERED_AND_MISSING: [[u32; 2]; 14] = [
+const EARLIER_MISSING: [[u32; 2]; 14] = [
     [5, 0],
     [6, 2],
     [7, 2],
@@ -243,14 +252,25 @@ fn fresh(name: &[u8], n: u32, l: u32, p: u32, length: usize) {
     show::left(&before, &t);
 }
 
-fn rule_a() {
+fn sound() {
+    damaged(b"sound", &[]);
+    each(b"sound", &SOUND);
+}
+
+fn header() {
     each(b"a", &HEADER);
+}
+
+fn lengths() {
     of_length(b"a, no words", 0);
     of_length(b"a, 1 word", 1);
     of_length(b"a, 3 words", 3);
     of_length(b"a, 4 words", 4);
     of_length(b"a, one word less", 53);
     of_length(b"a, one word more", 55);
+}
+
+fn limits() {
     fresh(b"a, N 0, length as it asks", 0, 1, 1, 6);
     fresh(b"a, N 17, length as it asks", 17, 1, 1, 414);
     fresh(b"a, L 0, length as it asks", 1, 0, 1, 10);
@@ -259,43 +279,57 @@ fn rule_a() {
     fresh(b"a, P 17, length as it asks", 1, 1, 17, 78);
 }
 
-fn rule_b() {
+fn counts() {
     each(b"b", &COUNTS);
     damaged(b"b, count below the writes", &[[6, 2], [5, 0]]);
-    damaged(
-        b"b, count above L",
-        &[[4, 3], [6, 5], [23, 3], [24, 7], [25, 90]],
-    );
+    damaged(b"b, count above L", &COUNT_ABOVE_L);
 }
 
-fn rule_c() {
+fn entries() {
     damaged(b"c, item 256", &[[16, 256]]);
     damaged(b"c, origin out of range", &[[5, 0], [18, 2]]);
     damaged(b"c, greatest origin", &[[5, 0], [18, 4294967295]]);
     damaged(b"c, count above the writes", &[[6, 4]]);
-    damaged(b"c, clock gap", &[[5, 4], [8, 4], [19, 4], [31, 4]]);
+}
+
+fn clocks() {
+    damaged(b"c, clock gap", &CLOCK_GAP);
     damaged(b"c, first clock 2", &FIRST_CLOCK_2);
     damaged(b"c, first clock 0", &FIRST_CLOCK_0);
-    damaged(b"c, origins down", &[[14, 1], [17, 60], [18, 0], [21, 70]]);
+}
+
+fn order() {
+    damaged(b"c, origins down", &ORIGINS_DOWN);
     damaged(b"c, clocks down", &CLOCKS_DOWN);
     damaged(b"c, a write twice", &A_WRITE_TWICE);
     damaged(b"c, origin and clock twice", &A_KEY_TWICE);
 }
 
-fn rules_d_to_f() {
+fn vectors() {
     each(b"d", &VECTORS);
     damaged(b"d, below the log at home", &[[4, 1], [44, 1], [46, 1]]);
+}
+
+fn agreement() {
     each(b"e", &AGREEMENT);
     damaged(b"e, a write that home lacks", &HOME_LACKS);
-    damaged(b"e, a write between is missing", &COVERED_AND_MISSING);
+    damaged(b"e, an earlier write is missing", &EARLIER_MISSING);
+}
+
+fn slots() {
     each(b"f", &SLOTS);
 }
 
 pub fn all() {
-    damaged(b"sound", &[]);
-    each(b"sound", &SOUND);
-    rule_a();
-    rule_b();
-    rule_c();
-    rules_d_to_f();
+    sound();
+    header();
+    lengths();
+    limits();
+    counts();
+    entries();
+    clocks();
+    order();
+    vectors();
+    agreement();
+    slots();
 }

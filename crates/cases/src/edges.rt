@@ -73,7 +73,7 @@ const ENDS: [[u32; 5]; 18] = [
     [5, 0, 0, 9, 0], // to itself
 ];
 
-fn two_places() {
+fn one_place_each() {
     let mut t = [0u32; 30];
     tables::making::make(2, 1, 2, &mut t);
     play::play(b"one place", &mut t, &ONE_PLACE);
@@ -83,7 +83,7 @@ fn two_places() {
     play::play(b"full or behind", &mut t, &FULL_OR_BEHIND);
 }
 
-fn eight_places() {
+fn four_places_each() {
     let mut t = [0u32; 54];
     tables::making::make(2, 4, 2, &mut t);
     play::play(b"reopened slot", &mut t, &REOPENED);
@@ -92,6 +92,6 @@ fn eight_places() {
 }
 
 pub fn all() {
-    two_places();
-    eight_places();
+    one_place_each();
+    four_places_each();
 }

@@ -15,6 +15,15 @@ const STEPS: [[u32; 5]; 9] = [
     [3, 15, 255, 1, 0],
 ];
 
+fn run(t: &mut [u32]) {
+    let mut script = [0u32; 45];
+    let mut answers = [0u32; 45];
+    play::put_steps(&mut script, &STEPS);
+    show::number(steps::run(t, &script, &mut answers));
+    show::text(b"\n");
+    show::answers(b"largest table", &answers);
+}
+
 pub fn all() {
     let mut t = [9u32; 66356];
     let code = tables::making::make(16, 1024, 16, &mut t);
@@ -22,14 +31,8 @@ pub fn all() {
     show::text(b"largest table, made:");
     show::number(code);
     making::made(&fresh);
-    let mut script = [0u32; 45];
-    play::put_steps(&mut script, &STEPS);
-    let mut answers = [0u32; 45];
-    let ran = steps::run(&mut t, &script, &mut answers);
     show::text(b"largest table, run:");
-    show::number(ran);
-    show::text(b"\n");
-    show::answers(b"largest table", &answers);
+    run(&mut t);
     show::text(b"largest table, what changed:");
     show::left(&fresh, &t);
 }

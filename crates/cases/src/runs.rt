@@ -36,6 +36,17 @@ fn run_in(t: &mut [u32], script: &[u32], m: usize, answers: &mut [u32], n: usize
     steps::run(t, &script[0..m], &mut answers[0..n])
 }
 
+// What was asked of a run, and what it answered.
+fn told(lengths: [u32; 3], code: u32, answers: &[u32]) {
+    show::text(b"run, with word 3 and lengths:");
+    show::numbers(&lengths);
+    show::text(b" ->");
+    show::number(code);
+    show::text(b", answers");
+    show::numbers(answers);
+    show::text(b", table");
+}
+
 // A run on the table after the ten rows, with nines in the answer buffer.
 fn run(lengths: [u32; 3]) {
     let mut t = rows::after_ten_rows();
@@ -44,20 +55,10 @@ fn run(lengths: [u32; 3]) {
     let mut script = [0u32; 15];
     play::put_steps(&mut script, &SCRIPT);
     let mut answers = [9u32; 15];
-    let code = run_in(
-        &mut t,
-        &script,
-        lengths[1] as usize,
-        &mut answers,
-        lengths[2] as usize,
-    );
-    show::text(b"run, with word 3 and lengths:");
-    show::numbers(&lengths);
-    show::text(b" ->");
-    show::number(code);
-    show::text(b", answers");
-    show::numbers(&answers);
-    show::text(b", table");
+    let m = lengths[1] as usize;
+    let n = lengths[2] as usize;
+    let code = run_in(&mut t, &script, m, &mut answers, n);
+    told(lengths, code, &answers);
     show::left(&before, &t);
 }
 

@@ -82,8 +82,8 @@ const SLOTS: [[u32; 2]; 11] = [
 // A log of four writes.
 const COUNT_ABOVE_L: [[u32; 2]; 5] = [[4, 3], [6, 5], [23, 3], [24, 7], [25, 90]];
 
-// Server 1's write has clock 4 everywhere.
-const CLOCK_GAP: [[u32; 2]; 4] = [[5, 4], [8, 4], [19, 4], [31, 4]];
+// Clock 3 for clock 2 everywhere: the least gap there is.
+const CLOCK_GAP: [[u32; 2]; 6] = [[4, 3], [5, 3], [8, 3], [15, 3], [19, 3], [31, 3]];
 
 // Every clock one more.
 const FIRST_CLOCK_2: [[u32; 2]; 9] = [
@@ -163,8 +163,23 @@ const A_KEY_TWICE: [[u32; 2]; 10] = [
     [37, 61],
 ];
 
-// Log 1 ends with a write of origin 0, clock 3.
-const HOME_LACKS: [[u32; 2]; 5] = [[7, 3], [9, 3], [35, 3], [36, 7], [37, 90]];
+// Log 1 has another second write of server 0 than home.
+const ANOTHER_WRITE: [[u32; 2]; 5] = [[7, 3], [9, 3], [35, 3], [36, 7], [37, 90]];
+
+// Log 1 has all of server 0's writes, and one more with clock 3.
+const HOME_LACKS: [[u32; 2]; 11] = [
+    [7, 3],
+    [9, 4],
+    [30, 0],
+    [33, 70],
+    [34, 1],
+    [35, 2],
+    [36, 7],
+    [37, 60],
+    [39, 3],
+    [40, 7],
+    [41, 90],
+];
 
 // Log 1 is 1 1 7 60, 0 2 7 70: it lacks server 0's first write, and its vector covers the second.
 const EARLIER_MISSING: [[u32; 2]; 14] = [
@@ -312,6 +327,7 @@ fn vectors() {
 
 fn agreement() {
     each(b"e", &AGREEMENT);
+    damaged(b"e, another write than at home", &ANOTHER_WRITE);
     damaged(b"e, a write that home lacks", &HOME_LACKS);
     damaged(b"e, an earlier write is missing", &EARLIER_MISSING);
 }

@@ -25,6 +25,16 @@ const ROOM: [[u32; 5]; 9] = [
 // Two places a log: one is free at server 1, and two writes lack.
 const NO_ROOM: [[u32; 5]; 3] = [[5, 0, 1, 9, 0], [5, 0, 1, 9, 0], [5, 1, 0, 9, 0]];
 
+// Server 0 holds three writes, and all places are free at server 1.
+const MOST_2: [[u32; 5]; 6] = [
+    [1, 0, 0, 0, 0],
+    [4, 0, 7, 50, 1],
+    [4, 0, 7, 60, 1],
+    [4, 0, 7, 70, 1],
+    [5, 0, 1, 2, 0], // most is the least of the three
+    [5, 0, 1, 2, 0], // one lacks
+];
+
 fn room() {
     let mut t = [0u32; 54];
     tables::making::make(2, 4, 2, &mut t);
@@ -39,7 +49,14 @@ fn no_room() {
     play::play(b"exchange, no room", &mut t, &NO_ROOM);
 }
 
+fn most_2() {
+    let mut t = [0u32; 54];
+    tables::making::make(2, 4, 2, &mut t);
+    play::play(b"exchange, most 2", &mut t, &MOST_2);
+}
+
 pub fn all() {
     room();
     no_room();
+    most_2();
 }

@@ -6,7 +6,7 @@ use mathlib.Core.Path.{_≡_, sym, _∙_, ap, ap₂}
 use native.Mathlib.Omega.{arith}
 use lib.Dec.{eqb, ltb}
 use lib.ListN.{length, getD}
-use Rattle.words.specs.Lists.{part}
+use Rattle.words.specs.Lists.{row, part}
 use Rattle.words.specs.RowLaws.{length-row}
 use Rattle.words.specs.Tests.{implies}
 use Rattle.vectors.specs.Vector.{dominates, vectorOf}
@@ -39,32 +39,30 @@ module _ {z : Size} {t : List ℕ} {k : ℕ} (asking : Asking z t k) where
   asking-starts = starts (within-view (asking .means) .some-server) (asking .means .state) k (sessionIn z t k) (asking .is-open)
 
   module _ (i : ℕ) (h : i < z .n) where
-    -- The server's vector against the session's read-vector,
-    pub reads-met : (wanted : Bool) {a b : List ℕ} → a ≡ part t (vectorAt z i 0) (z .n) → b ≡ part t (readAt z k 0) (z .n)
-        → implies wanted (dominates (length a) (vectorOf a) (vectorOf b)) ≡ implies wanted (dominates (z .n) (decode z t .vector i) (sessionIn z t k .readVector))
-    reads-met wanted e f =
-        ap (implies wanted) (ap₂ (λ x y. dominates (length x) (vectorOf x) (vectorOf y)) (e ∙ vector-view (asking .means) i h)
-        (f ∙ read-view (asking .means) k (asking .below) (sessionIn z t k) (asking .is-open)) ∙ dominates-held (z .n) _ _)
+    -- Two slices that hold the server's vector and another one: they have one length,
+    vector-long : {a b : List ℕ} (v : ℕ → ℕ) → a ≡ part t (vectorAt z i 0) (z .n) → b ≡ row (z .n) v → length a ≡ length b
+    vector-long v e f =
+        ap length (e ∙ vector-view (asking .means) i h) ∙ (length-row (z .n) _ ∙ sym (ap length f ∙ length-row (z .n) v))
 
-    -- and against its write-vector.
-    pub writes-met : (wanted : Bool) {a b : List ℕ} → a ≡ part t (vectorAt z i 0) (z .n) → b ≡ part t (writeAt z k 0) (z .n)
-        → implies wanted (dominates (length a) (vectorOf a) (vectorOf b)) ≡ implies wanted (dominates (z .n) (decode z t .vector i) (sessionIn z t k .writeVector))
-    writes-met wanted e f =
-        ap (implies wanted) (ap₂ (λ x y. dominates (length x) (vectorOf x) (vectorOf y)) (e ∙ vector-view (asking .means) i h)
-        (f ∙ write-view (asking .means) k (asking .below) (sessionIn z t k) (asking .is-open)) ∙ dominates-held (z .n) _ _)
+    -- and the check on the slices is the check on the vectors.
+    vector-met : (wanted : Bool) {a b : List ℕ} (v : ℕ → ℕ) → a ≡ part t (vectorAt z i 0) (z .n) → b ≡ row (z .n) v
+        → implies wanted (dominates (length a) (vectorOf a) (vectorOf b)) ≡ implies wanted (dominates (z .n) (decode z t .vector i) v)
+    vector-met wanted v e f =
+        ap (implies wanted) (ap₂ (λ x y. dominates (length x) (vectorOf x) (vectorOf y)) (e ∙ vector-view (asking .means) i h) f ∙ dominates-held (z .n) _ v)
 
-    -- All three have one length.
+    -- So for the session's read-vector,
+    read-held : {b : List ℕ} → b ≡ part t (readAt z k 0) (z .n) → b ≡ row (z .n) (sessionIn z t k .readVector)
+    read-held f = f ∙ read-view (asking .means) k (asking .below) (sessionIn z t k) (asking .is-open)
+
     pub reads-long : {a b : List ℕ} → a ≡ part t (vectorAt z i 0) (z .n) → b ≡ part t (readAt z k 0) (z .n) → length a ≡ length b
-    reads-long e f =
-        ap length (e ∙ vector-view (asking .means) i h)
-        ∙ (length-row (z .n) _
-        ∙ sym (ap length (f ∙ read-view (asking .means) k (asking .below) (sessionIn z t k) (asking .is-open)) ∙ length-row (z .n) _))
+    reads-long e f = vector-long _ e (read-held f)
+
+    -- and for its write-vector.
+    write-held : {b : List ℕ} → b ≡ part t (writeAt z k 0) (z .n) → b ≡ row (z .n) (sessionIn z t k .writeVector)
+    write-held f = f ∙ write-view (asking .means) k (asking .below) (sessionIn z t k) (asking .is-open)
 
     pub writes-long : {a b : List ℕ} → a ≡ part t (vectorAt z i 0) (z .n) → b ≡ part t (writeAt z k 0) (z .n) → length a ≡ length b
-    writes-long e f =
-        ap length (e ∙ vector-view (asking .means) i h)
-        ∙ (length-row (z .n) _
-        ∙ sym (ap length (f ∙ write-view (asking .means) k (asking .below) (sessionIn z t k) (asking .is-open)) ∙ length-row (z .n) _))
+    writes-long e f = vector-long _ e (write-held f)
 
     -- The second check counts if the first passes,
     pub both-met : (reads writes : Bool) {a b a′ b′ : List ℕ} {r₁ r₂ : Bool} → r₁ ≡ true
@@ -73,7 +71,7 @@ module _ {z : Size} {t : List ℕ} {k : ℕ} (asking : Asking z t k) where
         → r₂ ≡ current z t k reads writes i
     unfolding current
     both-met reads writes passed e f so e′ f′ so′ =
-        so′ ∙ (writes-met writes e′ f′ ∙ ap (λ b. b && implies writes (dominates (z .n) (decode z t .vector i) (sessionIn z t k .writeVector))) (sym passed ∙ (so ∙ reads-met reads e f)))
+        so′ ∙ (vector-met writes _ e′ (write-held f′) ∙ ap (λ b. b && implies writes (dominates (z .n) (decode z t .vector i) (sessionIn z t k .writeVector))) (sym passed ∙ (so ∙ vector-met reads _ e (read-held f))))
 
     -- and else it fails.
     pub first-failed : (reads writes : Bool) {a b : List ℕ} {r : Bool} → r ≡ false
@@ -81,7 +79,7 @@ module _ {z : Size} {t : List ℕ} {k : ℕ} (asking : Asking z t k) where
         → false ≡ current z t k reads writes i
     unfolding current
     first-failed reads writes failed e f so =
-        ap (λ b. b && implies writes (dominates (z .n) (decode z t .vector i) (sessionIn z t k .writeVector))) (sym failed ∙ (so ∙ reads-met reads e f))
+        ap (λ b. b && implies writes (dominates (z .n) (decode z t .vector i) (sessionIn z t k .writeVector))) (sym failed ∙ (so ∙ vector-met reads _ e (read-held f)))
 
     -- The verdict on a server for a read,
     pub reads-judged : {word : ℕ} {r : Bool} → word ≡ getD t (guaranteesAt z k) 0

@@ -2,7 +2,7 @@
 use Prim.Native.Nat.{ℕ, suc, max, _+_, _-_, _<_, _/_, _%_, _^_}
 use mathlib.Core.Bool.{Bool, true, false, cond, _&&_}
 use mathlib.Core.List.{List, [], _∷_}
-use mathlib.Core.Option.{some}
+use mathlib.Core.Option.{Option, none, some}
 use mathlib.Core.Path.{_≡_, refl, sym, _∙_, ap, ap₂}
 use native.Mathlib.Numerals.{add-one}
 use native.Mathlib.Omega.{arith}
@@ -13,9 +13,13 @@ use Rattle.words.specs.TestLaws.{cond-true, cond-false, cond-elim, and-both}
 use Rattle.tables.specs.Size.{Size}
 use Rattle.tables.specs.State.{State, Session}
 use Rattle.rules.specs.Choice.{upToDateToRead, upToDateToWrite, hasRoom, mayWriteTo, reaches, startOf, next, onwards, around, choose}
+use Rattle.logs.specs.Log.{lastOn}
+use Rattle.rules.specs.Step.{refused}
+use Rattle.rules.specs.Rules.{refuse, readFrom, writeAnswer, writeTo}
+use Rattle.rules.specs.CodeLaws.{read-code}
 use Rattle.choice.specs.declared.Choice.{Choice}
 use Rattle.choice.specs.declared.Choice.the-variants.{At, Behind, Full}
-use Rattle.choice.specs.Outcome.{outcome, upToDateTo, serves, found, readVerdict, writeVerdict, verdictTo, verdict, ofWorst, searched}
+use Rattle.choice.specs.Outcome.{codeOf, outcome, upToDateTo, serves, found, readVerdict, writeVerdict, verdictTo, verdict, ofWorst, searched}
 
 -- A verdict on a server, by whether it is up to date and whether it serves.
 pub data Judged (upToDate serving : Bool) : ℕ → Type 0 where
@@ -96,20 +100,48 @@ module _ (z : Size) (s : State) (q : Session) (reach : ℕ) where
     found-searched writing ∙ ap (λ i. searched (verdict writing z s q reach) 6 (onwards (z .n) (z .n) i)) (sym e),
   )
 
+-- ---- the enum's number is the code of the rules' answer
+
+-- Of a read, whatever is read of whichever slot,
+pub read-code-is : (z : Size) (s : State) (q : Session) (reach k item : ℕ)
+    → readFrom s k item q (choose (z .n) (startOf q) reach (upToDateToRead z s q)) .answer .code ≡ codeOf (found false z s q reach)
+unfolding found upToDateTo serves codeOf outcome readFrom refuse refused
+read-code-is z s q reach k item = go (choose (z .n) (startOf q) reach (upToDateToRead z s q))
+  where
+    go : (o : Option ℕ) → readFrom s k item q o .answer .code ≡ codeOf (outcome o o)
+    go none = refl
+    go (some i) = read-code i (lastOn item (s .log i))
+
+-- and of a write.
+pub write-code-is : (z : Size) (s : State) (q : Session) (reach k item value : ℕ)
+    → writeTo z s k item value q (choose (z .n) (startOf q) reach (upToDateToWrite z s q)) (choose (z .n) (startOf q) reach (mayWriteTo z s q)) .answer .code
+    ≡ codeOf (found true z s q reach)
+unfolding found upToDateTo serves codeOf outcome writeTo refuse refused writeAnswer
+write-code-is z s q reach k item value =
+    go (choose (z .n) (startOf q) reach (upToDateToWrite z s q)) (choose (z .n) (startOf q) reach (mayWriteTo z s q))
+  where
+    go : (o r : Option ℕ) → writeTo z s k item value q o r .answer .code ≡ codeOf (outcome o r)
+    go none r = refl
+    go (some i) none = refl
+    go (some i) (some j) = refl
+
 -- ---- in reach or not
 
 module _ (writing : Bool) (z : Size) (s : State) (q : Session) (reach i : ℕ) where
-  -- A server in reach, for a write,
+  -- A server in reach,
+  reached : {v : ℕ} → reach / 2 ^ i % 2 ≡ 1 → v ≡ verdictTo writing z s q i → v ≡ verdict writing z s q reach i
+  unfolding verdict reaches
+  reached e so = so ∙ sym (cond-true (eqb (reach / 2 ^ i % 2) 1) _ 6 (eq-eqb (reach / 2 ^ i % 2) 1 e))
+
+  -- for a write,
   pub write-reached : {v : ℕ} → reach / 2 ^ i % 2 ≡ 1 → writing ≡ true → v ≡ writeVerdict z s q i → v ≡ verdict writing z s q reach i
-  unfolding verdict reaches verdictTo
-  write-reached e w so =
-      so ∙ (ap (λ b. verdictTo b z s q i) (sym w) ∙ sym (cond-true (eqb (reach / 2 ^ i % 2) 1) _ 6 (eq-eqb (reach / 2 ^ i % 2) 1 e)))
+  unfolding verdictTo
+  write-reached e w so = reached e (so ∙ ap (λ b. verdictTo b z s q i) (sym w))
 
   -- and for a read.
   pub read-reached : {v : ℕ} → reach / 2 ^ i % 2 ≡ 1 → writing ≡ false → v ≡ readVerdict z s q i → v ≡ verdict writing z s q reach i
-  unfolding verdict reaches verdictTo
-  read-reached e w so =
-      so ∙ (ap (λ b. verdictTo b z s q i) (sym w) ∙ sym (cond-true (eqb (reach / 2 ^ i % 2) 1) _ 6 (eq-eqb (reach / 2 ^ i % 2) 1 e)))
+  unfolding verdictTo
+  read-reached e w so = reached e (so ∙ ap (λ b. verdictTo b z s q i) (sym w))
 
   -- A server out of reach.
   pub not-reached : (reach / 2 ^ i % 2 ≡ 1 → ⊥) → 6 ≡ verdict writing z s q reach i

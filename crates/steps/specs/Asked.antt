@@ -13,6 +13,7 @@ use Rattle.rules.specs.Rules.{rule}
 use Rattle.rules.specs.Calls.{step}
 use Rattle.steps.specs.declared.StepWords.{StepWords}
 
+-- 01, "Steps": "A step is five words: kind and four arguments".
 abbrev pub stepOf : StepWords → rules.Step
 stepOf x = record { kind = x .kind; a = x .a; b = x .b; c = x .c; d = x .d }
 

@@ -11,8 +11,8 @@ ghost use Rattle.logs.specs.Stored.{writeOf};
 
 pub mod adding;
 pub mod finding;
-pub mod rules;
 pub mod sending;
+pub mod testing;
 
 // One write, as it stands in a place.
 pub struct Entry {

@@ -1,8 +1,8 @@
--- `logs::rules::in_range` meets its contract. Assumes nothing.
+-- `logs::testing::in_range` meets its contract. Assumes nothing.
 use Rattle.logs.specs.LogTests.{inRange}
 use borrow.Author.Tests.{lt-ltb, le-ltb}
-use Rattle.logs.proofs.rules.in_range.Statement.{statement}
-use Rattle.logs.proofs.rules.in_range.Tie as tie
+use Rattle.logs.proofs.testing.in_range.Statement.{statement}
+use Rattle.logs.proofs.testing.in_range.Tie as tie
 
 returns : tie.Need-returns
 unfolding inRange

@@ -1,0 +1,58 @@
+// The lines of a script: numbers and steps as text. The text is defined in specs/Line.antt, what reading it finds in specs/Read.antt.
+ghost use mathlib.Core.Path.{_≡_};
+ghost use Rattle.lines.specs.Read.{readLine};
+ghost use Rattle.lines.specs.Found.{LinePromise};
+
+pub mod reading;
+
+// A number, and where the text goes on behind it.
+pub enum Number {
+    Good(u32, usize),
+    Bad,
+}
+
+// Where the text goes on behind a line.
+pub enum Place {
+    At(usize),
+    Bad,
+}
+
+// A step, and where the text goes on behind its line. The sizes N, L and P of a first line are a step of kind 0.
+pub enum Line {
+    Good {
+        kind: u32,
+        a: u32,
+        b: u32,
+        c: u32,
+        d: u32,
+        next: usize,
+    },
+    Bad,
+}
+
+// A text, and the place that has been reached in it.
+pub struct Reader<'a> {
+    pub text: &'a [u8],
+    pub at: usize,
+}
+
+// A reader at a place of a text.
+pub fn new<'a>(text: &'a [u8], at: usize) -> Reader<'a>
+    ensures { λ r. ⌜ (r .text ≡ text .entry) × (r .at ≡ at) ⌝ }
+{
+    Reader { text, at }
+}
+
+// The line where the reader stands.
+pub fn next<'a>(r: Reader<'a>) -> Line
+    ensures { λ l. ⌜ LinePromise (now (r .entry .text)) (readLine (now (r .entry .text)) (r .entry .at)) l ⌝ }
+{
+    reading::line_at(r.text, r.at)
+}
+
+// The line at a place of a text: at its start the sizes, elsewhere a step.
+pub fn read_line(text: &[u8], at: usize) -> Line
+    ensures { λ l. ⌜ LinePromise (now (text .entry)) (readLine (now (text .entry)) at) l ⌝ }
+{
+    next(new(text, at))
+}

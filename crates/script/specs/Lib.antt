@@ -1,0 +1,10 @@
+pub mod Reply
+pub mod Collect
+pub mod CollectLaws
+pub mod ReplyLaws
+pub mod TenLines
+pub mod Listed
+pub mod ListedLaws
+pub mod Answers
+pub mod AnswersLaws
+pub mod MadeLaws

@@ -1,0 +1,144 @@
+-- The steps collected so far, and those still to come. Assumes nothing.
+use Prim.Native.Nat.{ℕ, zero, suc, _+_, _-_, _*_, _≤_, _<_}
+use mathlib.Core.List.{List, [], _∷_, _++_, append-assoc}
+use mathlib.Core.Option.{Option, none, some}
+use mathlib.Core.Path.{_≡_, refl, sym, _∙_, ap, ap₂}
+use native.Mathlib.Omega.{arith}
+use lib.ListN.{length, take, drop, length-append, length-drop, take-append-drop, drop-of-length-le}
+use lib.Seq.{take-at, length-take-le}
+use Rattle.words.specs.Lists.{splice}
+use Rattle.words.specs.PartLaws.{splice-middle}
+use Rattle.rules.specs.Step.{Step, stepsOf, stepWords}
+use Rattle.rules.specs.RunLaws.{stepsOf-stepWords, length-stepWords}
+use Rattle.lines.specs.Read.{Got, readStep, readLine}
+use Rattle.lines.specs.ReadLaws.{read-step-shorter}
+use Rattle.lines.specs.Found.{lineIn, LinePromise}
+use Rattle.lines.specs.LineLaws.{line-later}
+use Rattle.lines.specs.declared.Line.{Line}
+use Rattle.lines.specs.declared.Line.the-variants as line
+use Rattle.script.specs.Reply.{mostSteps}
+use Rattle.script.specs.Collect.{Collected, whole, badBehind, longer, push, collect}
+use Rattle.script.specs.CollectLaws.{collect-ended, collect-full, collect-read, collect-unread}
+use Rattle.script.specs.Listed.{ListedPromise}
+use Rattle.script.specs.declared.collecting.Listed.the-variants.{Whole, BadBehind, Longer}
+
+-- With all of these steps before.
+unfoldable pub pushAll : List Step → Collected → Collected
+pushAll [] o = o
+pushAll (x ∷ xs) o = push x (pushAll xs o)
+
+pushAll-more : (xs : List Step) (x : Step) (o : Collected) → pushAll xs (push x o) ≡ pushAll (xs ++ (x ∷ [])) o
+unfolding pushAll
+pushAll-more [] x o = refl
+pushAll-more (y ∷ xs) x o = ap (push y) (pushAll-more xs x o)
+
+pushAll-whole : (xs : List Step) → pushAll xs (whole []) ≡ whole xs
+unfolding pushAll push
+pushAll-whole [] = refl
+pushAll-whole (x ∷ xs) = ap (push x) (pushAll-whole xs)
+
+pushAll-bad : (xs : List Step) → pushAll xs (badBehind 0) ≡ badBehind (length xs)
+unfolding pushAll push
+pushAll-bad [] = refl
+pushAll-bad (x ∷ xs) = ap (push x) (pushAll-bad xs)
+
+pushAll-longer : (xs : List Step) → pushAll xs longer ≡ longer
+unfolding pushAll push
+pushAll-longer [] = refl
+pushAll-longer (x ∷ xs) = ap (push x) (pushAll-longer xs)
+
+stepWords-append : (xs ys : List Step) → stepWords (xs ++ ys) ≡ stepWords xs ++ stepWords ys
+unfolding stepWords
+stepWords-append [] ys = refl
+stepWords-append (x ∷ xs) ys = ap {B = List ℕ} (λ ws. x .kind ∷ x .a ∷ x .b ∷ x .c ∷ x .d ∷ ws) (stepWords-append xs ys)
+
+module _ (text : List ℕ) (from : ℕ) where
+  -- So many steps stand in words, and the text goes on at a place.
+  pub record Listing (count : ℕ) (words : List ℕ) (at : ℕ) : Type 0 where
+    pub steps : List Step
+    pub behind : List ℕ
+    pub words-are : words ≡ stepWords steps ++ behind
+    pub count-is : length steps ≡ count
+    pub so-far : pushAll steps (collect (mostSteps - count) (drop at text)) ≡ collect mostSteps (drop from text)
+    pub later : 0 < at
+
+  pub listing-starts : (words : List ℕ) → 0 < from → Listing 0 words from
+  unfolding pushAll stepWords
+  listing-starts words h = record { steps = []; behind = words; words-are = refl; count-is = refl; so-far = refl; later = h }
+
+  module _ {count : ℕ} {words : List ℕ} {at : ℕ} (so : Listing count words at) where
+    words-count : length (stepWords (so .steps)) ≡ count * 5
+    words-count = length-stepWords (so .steps) ∙ ap (λ n. n * 5) (so .count-is)
+
+    -- The text has ended.
+    pub listing-ends : length text ≤ at → count ≤ mostSteps → ListedPromise (drop from text) (Whole count) words
+    listing-ends h few =
+        record {
+          found-is =
+              ap whole (ap (λ ws. stepsOf (take (count * 5) ws)) (so .words-are) ∙ (ap stepsOf (take-at (stepWords (so .steps)) (so .behind) (count * 5) words-count) ∙ stepsOf-stepWords (so .steps)))
+              ∙ (sym (pushAll-whole (so .steps))
+              ∙ (ap (pushAll (so .steps)) (sym (ap (collect (mostSteps - count)) (drop-of-length-le text {i = at} h) ∙ collect-ended (mostSteps - count)))
+              ∙ so .so-far));
+          few = few;
+        }
+
+    there : at < length text → 0 < length (drop at text)
+    there h = omega (arith, length-drop at text)
+
+    -- There is no room for another step.
+    pub listing-longer : at < length text → count ≡ mostSteps → ListedPromise (drop from text) Longer words
+    listing-longer h full =
+        let none-left : mostSteps - count ≡ 0 = omega arith in
+        record {
+          found-is =
+              sym (pushAll-longer (so .steps))
+              ∙ (ap (pushAll (so .steps)) (sym (ap (λ r. collect r (drop at text)) none-left ∙ collect-full (drop at text) (there h)))
+              ∙ so .so-far);
+          few = tt;
+        }
+
+    module _ (h : at < length text) (few : count < mostSteps) {r : Line} (found : LinePromise text (readLine text at) r) where
+      room : mostSteps - count ≡ suc (mostSteps - (count + 1))
+      room = omega arith
+
+      is-step : {o : Option (Got Step)} → lineIn text r ≡ o → readStep (drop at text) ≡ o
+      is-step e = line-later text at (λ z. omega (arith, so .later)) ∙ (sym (found .found-is) ∙ e)
+
+      -- The next line is bad,
+      pub listing-bad : r ≡ line.Bad → ListedPromise (drop from text) (BadBehind count) words
+      listing-bad e =
+          record {
+            found-is =
+                ap badBehind (sym (so .count-is))
+                ∙ (sym (pushAll-bad (so .steps))
+                ∙ (ap (pushAll (so .steps)) (sym (ap (λ m. collect m (drop at text)) room ∙ collect-unread (mostSteps - (count + 1)) (drop at text) (there h) (is-step (ap (lineIn text) e))))
+                ∙ so .so-far));
+            few = omega arith;
+          }
+
+      -- or one step more.
+      pub listing-on : {kind a b c d next : ℕ} → r ≡ line.Good kind a b c d next → {left : List ℕ} → 2560 ≤ length words → left ≡ splice (count * 5) 5 words (kind ∷ a ∷ b ∷ c ∷ d ∷ [])
+          → Listing (count + 1) left next
+      unfolding stepWords
+      listing-on {kind} {a} {b} {c} {d} {next} e {left} wide is =
+          let x : Step = record { kind = kind; a = a; b = b; c = c; d = d } in
+          let read = is-step (ap (lineIn text) e) in
+          let long = length-append (stepWords (so .steps)) (so .behind) in
+          let many = ap length (so .words-are) in
+          record {
+            steps = so .steps ++ (x ∷ []);
+            behind = drop 5 (so .behind);
+            words-are =
+                is
+                ∙ (ap (λ ws. splice (count * 5) 5 ws (kind ∷ a ∷ b ∷ c ∷ d ∷ [])) (so .words-are ∙ ap (λ ws. stepWords (so .steps) ++ ws) (sym (take-append-drop 5 (so .behind))))
+                ∙ (splice-middle (stepWords (so .steps)) (take 5 (so .behind)) (drop 5 (so .behind)) (count * 5) 5 (kind ∷ a ∷ b ∷ c ∷ d ∷ []) words-count
+                (length-take-le 5 (so .behind) (omega (arith, long, many, words-count)))
+                ∙ (sym (append-assoc (stepWords (so .steps)) (stepWords (x ∷ [])) (drop 5 (so .behind)))
+                ∙ ap (λ ws. ws ++ drop 5 (so .behind)) (sym (stepWords-append (so .steps) (x ∷ []))))));
+            count-is = length-append (so .steps) (x ∷ []) ∙ ap (λ n. n + 1) (so .count-is);
+            so-far =
+                sym (pushAll-more (so .steps) x _)
+                ∙ (ap (pushAll (so .steps)) (sym (ap (λ m. collect m (drop at text)) room ∙ collect-read (mostSteps - (count + 1)) (drop at text) _ read))
+                ∙ so .so-far);
+            later = omega (arith, read-step-shorter (drop at text) _ read, length-drop at text, length-drop next text);
+          }

@@ -1,0 +1,140 @@
+-- From what is printed to the reply. Assumes nothing.
+use Prim.Native.Nat.{ℕ, _+_, _*_, _≤_, _<_}
+use mathlib.Core.Bool.{Bool, true, false}
+use mathlib.Core.List.{List, [], _∷_, _++_}
+use mathlib.Core.Option.{Option}
+use mathlib.Core.Path.{_≡_, refl, sym, _∙_, ap, subst}
+use native.Mathlib.Omega.{arith}
+use borrow.Author.Tests.{leb-true, le-leb}
+use lib.ListN.{length, take, drop, length-drop, length-append}
+use Rattle.words.specs.Lists.{splice}
+use Rattle.words.specs.TestLaws.{cond-true, cond-false, and-left, and-right, true-not-false}
+use Rattle.tables.specs.Size.{Size}
+use Rattle.rules.specs.Step.{Step, Answer, answerWords}
+use Rattle.lines.specs.Read.{Got, readSizes, readLine}
+use Rattle.lines.specs.ReadLaws.{read-sizes-shorter}
+use Rattle.lines.specs.Found.{lineIn, LinePromise}
+use Rattle.lines.specs.LineLaws.{line-first}
+use Rattle.lines.specs.declared.Line.{Line}
+use Rattle.lines.specs.declared.Line.the-variants as line
+use Rattle.lines.specs.Decimal.{decimal, greatest}
+use Rattle.lines.specs.DecimalLaws.{length-decimal}
+use Rattle.lines.specs.Line.{fields}
+use Rattle.printing.specs.Printed.{Puts, wordLines}
+use Rattle.script.specs.Reply.{answerLine, mostBytes, mostSteps, admissible, answerLines, tooLong, badLine}
+use Rattle.script.specs.Collect.{collect, sizesOf, replyBehind, replyOf, replyFrom, replyTo}
+use Rattle.script.specs.ReplyLaws.{reply-found, reply-settled, short-one}
+use Rattle.script.specs.Answers.{sizes, answersOf, Room, roomy, Replied, ReplyPromise}
+use Rattle.script.specs.Listed.{collectedIn, Few, ListedPromise}
+use Rattle.script.specs.declared.collecting.Listed.{Listed}
+use Rattle.script.specs.declared.collecting.Listed.the-variants.{Whole, BadBehind, Longer}
+
+-- The same bytes.
+pub puts-as : {o bs cs e : List ℕ} {at r : ℕ} → bs ≡ cs → Puts o at bs r e → Puts o at cs r e
+puts-as {o} {e = e} {at = at} {r = r} same p = subst (λ xs. Puts o at xs r e) same p
+
+-- The lines of the words of answers are those of the answers.
+pub wordLines-answers : (rs : List Answer) → wordLines (answerWords rs) ≡ answerLines rs
+unfolding wordLines answerWords answerLines answerLine
+wordLines-answers [] = refl
+wordLines-answers (r ∷ rs) = ap (λ (ls : List ℕ). answerLine r ++ ls) (wordLines-answers rs)
+
+-- Put where the answers stand in words.
+pub puts-answers : {o ws e : List ℕ} {r : ℕ} (rs : List Answer) → ws ≡ answerWords rs → Puts o 0 (wordLines ws) r e → Puts o 0 (answerLines rs) r e
+puts-answers rs is p = puts-as (ap wordLines is ∙ wordLines-answers rs) p
+
+-- `bad line K` has ten bytes beside those of the number.
+pub length-badLine : (k : ℕ) → length (badLine k) ≡ 10 + length (decimal k)
+unfolding badLine fields
+length-badLine k = omega (arith, length-append (decimal k) (10 ∷ []))
+
+-- Its number has few digits.
+pub badLine-fits : (k : ℕ) (out : List ℕ) → k ≤ greatest → 28160 ≤ length out → length (badLine k) ≤ length out
+badLine-fits k out small wide = omega (arith, length-badLine k, length-decimal k small)
+
+-- ---- behind the first line
+
+module _ (z : Size) (text : List ℕ) {r : Listed} {words : List ℕ} (found : ListedPromise text r words) where
+  behind-is : {s : Listed} → r ≡ s → replyBehind z (collectedIn words s) ≡ replyBehind z (collect mostSteps text)
+  behind-is e = ap (replyBehind z) (ap (collectedIn words) (sym e) ∙ found .found-is)
+
+  pub behind-few : {s : Listed} → r ≡ s → Few s
+  behind-few e = subst Few e (found .few)
+
+  module _ {o e : List ℕ} {n : ℕ} where
+    pub behind-whole : {count : ℕ} → r ≡ Whole count → Puts o 0 (answerLines (answersOf z (take (count * 5) words))) n e → Puts o 0 (replyBehind z (collect mostSteps text)) n e
+    unfolding replyBehind answersOf
+    behind-whole is p = puts-as (behind-is is) p
+
+    pub behind-bad : {count : ℕ} → r ≡ BadBehind count → Puts o 0 (badLine (count + 2)) n e → Puts o 0 (replyBehind z (collect mostSteps text)) n e
+    unfolding replyBehind
+    behind-bad is p = puts-as (behind-is is) p
+
+    pub behind-longer : r ≡ Longer → Puts o 0 tooLong n e → Puts o 0 (replyBehind z (collect mostSteps text)) n e
+    unfolding replyBehind
+    behind-longer is p = puts-as (behind-is is) p
+
+-- ---- from the first line on
+
+module _ (z : Size) (rest : List ℕ) {ok : Bool} (is : ok ≡ admissible z) {o e : List ℕ} {n : ℕ} where
+  pub sizes-good : ok ≡ true → Puts o 0 (replyBehind z (collect mostSteps rest)) n e → Puts o 0 (replyOf z rest) n e
+  unfolding replyOf
+  sizes-good t p = puts-as (sym (cond-true (admissible z) _ _ (sym is ∙ t))) p
+
+  pub sizes-bad : ok ≡ false → Puts o 0 (badLine 1) n e → Puts o 0 (replyOf z rest) n e
+  unfolding replyOf
+  sizes-bad f p = puts-as (sym (cond-false (admissible z) _ _ (sym is ∙ f))) p
+
+module _ (text : List ℕ) (short : length text ≤ mostBytes) {r : Line} (found : LinePromise text (readLine text 0) r) where
+  first-is : {o : Option (Got Step)} → lineIn text r ≡ o → readSizes text ≡ o
+  first-is e = line-first text 0 refl ∙ (sym (found .found-is) ∙ e)
+
+  module _ {kind a b c d next : ℕ} (e : r ≡ line.Good kind a b c d next) where
+    -- The first line is not empty.
+    pub first-later : 0 < next
+    first-later = omega (arith, read-sizes-shorter text _ (first-is (ap (lineIn text) e)), length-drop next text)
+
+    pub first-good : {o left : List ℕ} {n : ℕ} → Puts o 0 (replyOf (sizes a b c) (drop next text)) n left → Puts o 0 (replyTo text) n left
+    unfolding replyFrom sizesOf
+    first-good p = puts-as (sym (short-one text short ∙ ap replyFrom (first-is (ap (lineIn text) e)))) p
+
+  pub first-bad : r ≡ line.Bad → {o left : List ℕ} {n : ℕ} → Puts o 0 (badLine 1) n left → Puts o 0 (replyTo text) n left
+  unfolding replyFrom
+  first-bad e p = puts-as (sym (short-one text short ∙ ap replyFrom (first-is (ap (lineIn text) e)))) p
+
+-- ---- with room and without
+
+module _ (table list answers out : List ℕ) where
+  pub roomy-room : roomy table list answers out ≡ true → Room table list answers out
+  unfolding roomy
+  roomy-room h =
+      record {
+        for-table = leb-true 9012 (length table) (search (and-left, and-right));
+        for-list = leb-true 2560 (length list) (search (and-left, and-right));
+        for-answers = leb-true 2560 (length answers) (search (and-left, and-right));
+        for-out = leb-true 28160 (length out) (search (and-left, and-right));
+      }
+
+  room-roomy : Room table list answers out → roomy table list answers out ≡ true
+  unfolding roomy
+  room-roomy room = rw (le-leb _ _ (room .for-table), le-leb _ _ (room .for-list), le-leb _ _ (room .for-answers), le-leb _ _ (room .for-out))
+
+  pub replied : (text : List ℕ) {r : ℕ} {table′ list′ answers′ out′ : List ℕ} → Room table list answers out → Puts out 0 (replyTo text) r out′
+      → ReplyPromise text table list answers out r table′ list′ answers′ out′
+  unfolding splice
+  replied text room p =
+      record {
+        with-room = λ _. record { bytes = replyTo text; is-reply = reply-found text; written = p .written; count-is = omega (arith, p .next) };
+        without = λ small. absurd (small room);
+        within = omega (arith, p .next, ap length (p .written), length-append (replyTo text) (drop (length (replyTo text)) out));
+      }
+
+  pub refused : (text : List ℕ) → roomy table list answers out ≡ false → ReplyPromise text table list answers out 0 table list answers out
+  refused text h = record { with-room = λ room. true-not-false (room-roomy room) h; without = λ _. (refl, refl, refl, refl, refl); within = omega arith }
+
+-- ---- the promise settles the reply
+
+pub replied-settled : {text out : List ℕ} {r s : ℕ} {left last : List ℕ} → Replied text out r left → Replied text out s last → (r ≡ s) × (left ≡ last)
+replied-settled {text} {out} p q =
+    let same = reply-settled text (p .bytes) (q .bytes) (p .is-reply) (q .is-reply) in
+    (p .count-is ∙ (ap length same ∙ sym (q .count-is)), p .written ∙ (ap (λ bs. bs ++ drop (length bs) out) same ∙ sym (q .written)))

@@ -1,0 +1,153 @@
+// The desk program on slices: a text in, its reply out. The reply is defined in specs/Reply.antt.
+ghost use mathlib.Core.Path.{_≡_};
+ghost use mathlib.Core.Bool.{true};
+ghost use Prim.Native.Nat.{_*_, _≤_, _<_};
+ghost use lib.ListN.{length, take, drop};
+ghost use Rattle.script.specs.Reply.{admissible, answerLines, mostSteps};
+ghost use Rattle.script.specs.Collect.{collect, replyBehind, replyOf, replyTo};
+ghost use Rattle.script.specs.Answers.{sizes, answersOf, Room, roomy, ReplyPromise};
+ghost use Rattle.printing.specs.Printed.{Puts};
+use collecting::Listed;
+use lines::Line;
+
+mod answering;
+mod collecting;
+mod messages;
+
+// 01, "The desk program": the most bytes of a text.
+pub const MOST_BYTES: usize = 16384;
+
+// Room for the largest table that a script can ask for, for the words of 512 steps and of their answers, and for 512 lines of at most
+// 55 bytes.
+pub const TABLE_WORDS: usize = 9012;
+
+pub const LIST_WORDS: usize = 2560;
+
+pub const OUT_BYTES: usize = 28160;
+
+// Are the buffers long enough for any script?
+fn has_room(table: &[u32], list: &[u32], answers: &[u32], out: &[u8]) -> bool
+    ensures { λ r. ⌜ r ≡ roomy (now (table .entry)) (now (list .entry)) (now (answers .entry)) (now (out .entry)) ⌝ }
+{
+    if table.len() < TABLE_WORDS {
+        return false;
+    }
+    if list.len() < LIST_WORDS {
+        return false;
+    }
+    if answers.len() < LIST_WORDS {
+        return false;
+    }
+    OUT_BYTES <= out.len()
+}
+
+// The answers of so many steps, a line each.
+fn reply_answers(
+    n: u32,
+    l: u32,
+    p: u32,
+    count: usize,
+    table: &mut [u32],
+    list: &[u32],
+    answers: &mut [u32],
+    out: &mut [u8],
+) -> usize
+    requires { ⌜ (admissible (sizes n l p) ≡ true) × (count ≤ 512) ⌝ }
+    requires { ⌜ Room (now table) (now list) (now answers) (now out) ⌝ }
+    ensures { λ r. ⌜ Puts (now (out .entry)) 0 (answerLines (answersOf (sizes n l p) (take (count * 5) (now (list .entry))))) r (now (out .exit)) ⌝ }
+{
+    answering::answer(n, l, p, count, table, list, answers);
+    printing::put_answers(out, &answers[..count * 5], count)
+}
+
+// The reply behind a good first line, which ends before a place.
+fn reply_behind(
+    text: &[u8],
+    at: usize,
+    n: u32,
+    l: u32,
+    p: u32,
+    table: &mut [u32],
+    list: &mut [u32],
+    answers: &mut [u32],
+    out: &mut [u8],
+) -> usize
+    requires { ⌜ (admissible (sizes n l p) ≡ true) × (0 < at) ⌝ }
+    requires { ⌜ Room (now table) (now list) (now answers) (now out) ⌝ }
+    ensures { λ r. ⌜ Puts (now (out .entry)) 0 (replyBehind (sizes n l p) (collect mostSteps (drop at (now (text .entry))))) r (now (out .exit)) ⌝ }
+{
+    match collecting::collect(text, at, list) {
+        Listed::Whole(count) => reply_answers(n, l, p, count, table, list, answers, out),
+        Listed::BadBehind(count) => messages::bad_line(out, count as u32 + 2),
+        Listed::Longer => messages::too_long(out),
+    }
+}
+
+// The reply behind a first line that names these sizes.
+fn reply_sizes(
+    text: &[u8],
+    at: usize,
+    n: u32,
+    l: u32,
+    p: u32,
+    table: &mut [u32],
+    list: &mut [u32],
+    answers: &mut [u32],
+    out: &mut [u8],
+) -> usize
+    requires { ⌜ 0 < at ⌝ }
+    requires { ⌜ Room (now table) (now list) (now answers) (now out) ⌝ }
+    ensures { λ r. ⌜ Puts (now (out .entry)) 0 (replyOf (sizes n l p) (drop at (now (text .entry)))) r (now (out .exit)) ⌝ }
+{
+    if answering::is_admissible(n, l, p) {
+        return reply_behind(text, at, n, l, p, table, list, answers, out);
+    }
+    messages::bad_line(out, 1)
+}
+
+// The reply to a text.
+fn reply_text(
+    text: &[u8],
+    table: &mut [u32],
+    list: &mut [u32],
+    answers: &mut [u32],
+    out: &mut [u8],
+) -> usize
+    requires { ⌜ Room (now table) (now list) (now answers) (now out) ⌝ }
+    ensures { λ r. ⌜ Puts (now (out .entry)) 0 (replyTo (now (text .entry))) r (now (out .exit)) ⌝ }
+{
+    if MOST_BYTES < text.len() {
+        return messages::too_long(out);
+    }
+    match lines::read_line(text, 0) {
+        Line::Good { a, b, c, next, .. } => reply_sizes(
+            text,
+            next,
+            a,
+            b,
+            c,
+            table,
+            list,
+            answers,
+            out,
+        ),
+        Line::Bad => messages::bad_line(out, 1),
+    }
+}
+
+// Puts the reply to a text at the front of `out`, and answers how many bytes it has. Any text will do. The other buffers are room to work
+// in; what they hold before does not matter. If a buffer is shorter than the lengths above, answers 0 and alters nothing.
+pub fn reply(
+    text: &[u8],
+    table: &mut [u32],
+    list: &mut [u32],
+    answers: &mut [u32],
+    out: &mut [u8],
+) -> usize
+    ensures { λ r. ⌜ ReplyPromise (now (text .entry)) (now (table .entry)) (now (list .entry)) (now (answers .entry)) (now (out .entry)) r (now (table .exit)) (now (list .exit)) (now (answers .exit)) (now (out .exit)) ⌝ }
+{
+    if has_room(table, list, answers, out) {
+        return reply_text(text, table, list, answers, out);
+    }
+    0
+}

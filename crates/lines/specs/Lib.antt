@@ -9,3 +9,4 @@ pub mod Found
 pub mod FoundLaws
 pub mod FieldLaws
 pub mod LineLaws
+pub mod FeedLaws

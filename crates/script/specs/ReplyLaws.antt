@@ -1,5 +1,5 @@
 -- The reply that the code finds is one of those that Reply.antt allows, and there is no other. Assumes nothing.
-use Prim.Native.Nat.{ℕ, _<_, _≤_}
+use Prim.Native.Nat.{ℕ, _+_, _<_, _≤_}
 use mathlib.Core.Bool.{true, false}
 use mathlib.Core.List.{List, _++_, append-assoc}
 use mathlib.Core.Logic.{⊎-elim}
@@ -18,7 +18,8 @@ use Rattle.rules.specs.Step.{Step}
 use Rattle.lines.specs.Line.{sizeLine}
 use Rattle.lines.specs.Read.{Got, readSizes}
 use Rattle.lines.specs.ReadLaws.{read-sizes, sizes-read}
-use Rattle.script.specs.Reply.{mostBytes, mostSteps, admissible, Script, script, BadFirst, tooLong, badLine, Reply, too-many-bytes, bad-first-line, bad-step-line, too-many-lines, answered}
+use Rattle.lines.specs.FeedLaws.{feeds, feeds-append, feeds-sizeLine, feeds-stepLine}
+use Rattle.script.specs.Reply.{mostBytes, mostSteps, admissible, StepLines, no-lines, next-line, Script, script, BadFirst, tooLong, badLine, Reply, too-many-bytes, bad-first-line, bad-step-line, too-many-lines, answered}
 use Rattle.script.specs.Collect.{Collected, sizesOf, replyBehind, replyOf, replyFrom, replyTo}
 use Rattle.script.specs.CollectLaws.{Says, all-good, one-bad, goes-on, collect-says, says-collect}
 
@@ -123,3 +124,14 @@ reply-whole text out said = subst (Reply text) (sym (reply-one (take 16385 text)
     same =
         ⊎-elim (λ long. long-one (take 16385 text) (omega (arith, length-take-le 16385 text long)) ∙ sym (long-one text long))
         (λ short. ap replyTo (take-all 16385 text (omega arith))) (lt-or-le mostBytes (length text))
+
+-- ---- the number of a bad line
+
+-- A script has as many line feeds as it has lines: one of sizes, and one for each step. So what stands behind k steps is line k + 2.
+steps-feeds : {xs : List Step} {text : List ℕ} → StepLines xs text → feeds text ≡ length xs
+unfolding feeds
+steps-feeds no-lines = refl
+steps-feeds (next-line {line = line} {text = text} said lines) = omega (arith, feeds-append line text, feeds-stepLine said, steps-feeds lines)
+
+pub script-feeds : {z : Size} {xs : List Step} {text : List ℕ} → Script z xs text → feeds text ≡ length xs + 1
+script-feeds {z} (script {text = text} ok lines) = omega (arith, feeds-append (sizeLine z) text, feeds-sizeLine z, steps-feeds lines)

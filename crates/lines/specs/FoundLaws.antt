@@ -1,22 +1,19 @@
 -- What the code's promises come to, byte by byte of a text. Assumes nothing.
-use Prim.Native.Nat.{ℕ, zero, suc, _+_, _-_, _*_, _≤_, _<_}
-use mathlib.Core.Bool.{Bool, true, false, cond, _&&_}
+use Prim.Native.Nat.{ℕ, _+_, _-_, _*_, _≤_, _<_}
+use mathlib.Core.Bool.{Bool, true, false, cond}
 use mathlib.Core.Logic.{⊎-elim}
-use mathlib.Core.List.{List, [], _∷_, _++_}
-use mathlib.Core.Option.{Option, none, some}
-use mathlib.Core.Path.{_≡_, refl, sym, _∙_, ap, ap₂}
+use mathlib.Core.List.{List, [], _∷_}
+use mathlib.Core.Option.{none, some}
+use mathlib.Core.Path.{_≡_, sym, _∙_, ap}
 use native.Mathlib.Numerals.{add-one}
-use native.Mathlib.Omega.{arith}
 use borrow.Author.Tests.{lt-leb, le-leb, leb-true, eq-eqb, ne-eqb}
 use lib.Dec.{leb, eqb}
-use lib.ListN.{length, getD, take, drop, drop-of-length-le}
+use lib.ListN.{length, getD, drop, drop-of-length-le}
 use lib.Seq.{drop-cons, drop-drop}
 use Rattle.words.specs.TestLaws.{cond-true, cond-false, and-left, and-right, true-not-false}
 use Rattle.words.specs.CaseLaws.{lt-or-le}
 use Rattle.lines.specs.Decimal.{greatest}
-use Rattle.lines.specs.Read.{Got, begins, isDigit, more, readNumber, readField}
-use Rattle.lines.specs.Found.{NumberPromise}
-use Rattle.lines.specs.declared.Number.the-variants as number
+use Rattle.lines.specs.Read.{begins, isDigit, more, readNumber, readField}
 
 module _ (text : List ℕ) (at : ℕ) where
   -- ---- the byte at a place

@@ -11,9 +11,6 @@ use Rattle.rules.specs.Step.{Answer, stepsOf}
 use Rattle.rules.specs.Calls.{walk}
 use Rattle.script.specs.Reply.{Reply}
 
-abbrev pub sizes : (n l p : ℕ) → Size
-sizes n l p = record { n = n; l = l; p = p }
-
 -- The answers of a list of steps on a fresh table.
 unfoldable pub answersOf : Size → List ℕ → List Answer
 answersOf z steps = walk (fresh z) (stepsOf steps) .answers

@@ -27,14 +27,14 @@ use Rattle.script.specs.Answers.{answersOf}
 -- ---- admissible sizes
 
 -- By the test of the limits.
-module _ (z : Size) {r : Bool} {z′ : Size} (same : z′ ≡ z) (is : r ≡ within z′) where
+module _ (z : Size) {r : Bool} (is : r ≡ within z) where
   pub admissible-if : r ≡ true → leb (z .l) 128 ≡ admissible z
   unfolding admissible
-  admissible-if e = and-goes (within z) (leb (z .l) 128) (ap within (sym same) ∙ (sym is ∙ e)) refl
+  admissible-if e = and-goes (within z) (leb (z .l) 128) (sym is ∙ e) refl
 
   pub inadmissible : r ≡ false → false ≡ admissible z
   unfolding admissible
-  inadmissible e = and-fails (within z) (leb (z .l) 128) (ap within (sym same) ∙ (sym is ∙ e))
+  inadmissible e = and-fails (within z) (leb (z .l) 128) (sym is ∙ e)
 
 module _ (z : Size) (ok : admissible z ≡ true) where
   within-is : within z ≡ true
@@ -56,18 +56,18 @@ module _ (z : Size) (ok : admissible z ≡ true) where
       omega (arith, logs, heads-bound z admissible-within, slots-bound z admissible-within)
 
   -- It stands at the front of a long enough buffer.
-  module _ {r : ℕ} {z′ : Size} (same : z′ ≡ z) (is : r ≡ size z′) (t : List ℕ) (long : 9012 ≤ length t) where
+  module _ {r : ℕ} (is : r ≡ size z) (t : List ℕ) (long : 9012 ≤ length t) where
     pub table-room : r ≤ length t
-    table-room = omega (arith, is ∙ ap size same, admissible-size)
+    table-room = omega (arith, is, admissible-size)
 
     pub table-front : length (take r t) ≡ size z
-    table-front = length-take-le r t table-room ∙ (is ∙ ap size same)
-
-  -- What is made in a buffer of its length is fresh.
-  pub made-fresh : {code : ℕ} (buffer : List ℕ) {left : List ℕ} → length buffer ≡ size z → MakePromise z buffer code left → left ≡ fresh z
-  made-fresh buffer fits made = made .buffer-is ∙ ap (λ m. m .buffer) (make-done z buffer within-is fits)
+    table-front = length-take-le r t table-room ∙ is
 
 -- ---- the run
+
+-- What is made in a buffer of its length is fresh.
+pub made-fresh : (z : Size) → Within z → {code : ℕ} (buffer : List ℕ) {left : List ℕ} → length buffer ≡ size z → MakePromise z buffer code left → left ≡ fresh z
+made-fresh z limits buffer fits made = made .buffer-is ∙ ap (λ m. m .buffer) (make-done z buffer (within-exactly z .1 limits) fits)
 
 -- On a fresh table its answers are those of the steps.
 pub fresh-answers : (z : Size) (steps answers : List ℕ) {t : List ℕ} → t ≡ fresh z → length steps ≡ length answers → length steps % 5 ≡ 0

@@ -24,7 +24,7 @@ use Rattle.printing.specs.Printed.{Puts, wordLines}
 use Rattle.script.specs.Reply.{answerLine, mostBytes, mostSteps, admissible, answerLines, tooLong, badLine}
 use Rattle.script.specs.Collect.{collect, sizesOf, replyBehind, replyOf, replyFrom, replyTo}
 use Rattle.script.specs.ReplyLaws.{reply-found, reply-settled, short-one}
-use Rattle.script.specs.Answers.{sizes, answersOf, Room, roomy, Replied, ReplyPromise}
+use Rattle.script.specs.Answers.{answersOf, Room, roomy, Replied, ReplyPromise}
 use Rattle.script.specs.Listed.{collectedIn, Few, ListedPromise}
 use Rattle.script.specs.declared.collecting.Listed.{Listed}
 use Rattle.script.specs.declared.collecting.Listed.the-variants.{Whole, BadBehind, Longer}
@@ -94,9 +94,9 @@ module _ (text : List ℕ) (short : length text ≤ mostBytes) {r : Line} (found
     pub first-later : 0 < next
     first-later = omega (arith, read-sizes-shorter text _ (first-is (ap (lineIn text) e)), length-drop next text)
 
-    pub first-good : {o left : List ℕ} {n : ℕ} → Puts o 0 (replyOf (sizes a b c) (drop next text)) n left → Puts o 0 (replyTo text) n left
+    pub first-good : {z : Size} → z ≡ record { n = a; l = b; p = c } → {o left : List ℕ} {n : ℕ} → Puts o 0 (replyOf z (drop next text)) n left → Puts o 0 (replyTo text) n left
     unfolding replyFrom sizesOf
-    first-good p = puts-as (sym (short-one text short ∙ ap replyFrom (first-is (ap (lineIn text) e)))) p
+    first-good same p = puts-as (ap (λ z. replyOf z (drop next text)) same ∙ sym (short-one text short ∙ ap replyFrom (first-is (ap (lineIn text) e)))) p
 
   pub first-bad : r ≡ line.Bad → {o left : List ℕ} {n : ℕ} → Puts o 0 (badLine 1) n left → Puts o 0 (replyTo text) n left
   unfolding replyFrom

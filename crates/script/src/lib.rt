@@ -3,12 +3,14 @@ ghost use mathlib.Core.Path.{_≡_};
 ghost use mathlib.Core.Bool.{true};
 ghost use Prim.Native.Nat.{_*_, _≤_, _<_};
 ghost use lib.ListN.{length, take, drop};
-ghost use Rattle.script.specs.Reply.{admissible, answerLines, mostSteps};
-ghost use Rattle.script.specs.Collect.{collect, replyBehind, replyOf, replyTo};
-ghost use Rattle.script.specs.Answers.{sizes, answersOf, Room, roomy, ReplyPromise};
+ghost use Rattle.tables.specs.Shape.{shape};
+ghost use Rattle.script.specs.Reply.{admissible, answerLines};
+ghost use Rattle.script.specs.Collect.{replyOf, replyTo};
+ghost use Rattle.script.specs.Answers.{answersOf, Room, roomy, ReplyPromise};
 ghost use Rattle.printing.specs.Printed.{Puts};
 use collecting::Listed;
 use lines::Line;
+use tables::Table;
 
 mod answering;
 mod collecting;
@@ -41,55 +43,28 @@ fn has_room(table: &[u32], list: &[u32], answers: &[u32], out: &[u8]) -> bool
     OUT_BYTES <= out.len()
 }
 
-// The answers of so many steps, a line each.
+// The answers of so many steps on a table of these sizes, a line each.
 fn reply_answers(
-    n: u32,
-    l: u32,
-    p: u32,
+    z: Table,
     count: usize,
     table: &mut [u32],
     list: &[u32],
     answers: &mut [u32],
     out: &mut [u8],
 ) -> usize
-    requires { ⌜ (admissible (sizes n l p) ≡ true) × (count ≤ 512) ⌝ }
+    requires { ⌜ (admissible (shape z) ≡ true) × (count ≤ 512) ⌝ }
     requires { ⌜ Room (now table) (now list) (now answers) (now out) ⌝ }
-    ensures { λ r. ⌜ Puts (now (out .entry)) 0 (answerLines (answersOf (sizes n l p) (take (count * 5) (now (list .entry))))) r (now (out .exit)) ⌝ }
+    ensures { λ r. ⌜ Puts (now (out .entry)) 0 (answerLines (answersOf (shape z) (take (count * 5) (now (list .entry))))) r (now (out .exit)) ⌝ }
 {
-    answering::answer(n, l, p, count, table, list, answers);
+    answering::answer(z, count, table, list, answers);
     printing::put_answers(out, &answers[..count * 5], count)
 }
 
-// The reply behind a good first line, which ends before a place.
+// The reply behind a first line that names these sizes and ends before a place.
 fn reply_behind(
     text: &[u8],
     at: usize,
-    n: u32,
-    l: u32,
-    p: u32,
-    table: &mut [u32],
-    list: &mut [u32],
-    answers: &mut [u32],
-    out: &mut [u8],
-) -> usize
-    requires { ⌜ (admissible (sizes n l p) ≡ true) × (0 < at) ⌝ }
-    requires { ⌜ Room (now table) (now list) (now answers) (now out) ⌝ }
-    ensures { λ r. ⌜ Puts (now (out .entry)) 0 (replyBehind (sizes n l p) (collect mostSteps (drop at (now (text .entry))))) r (now (out .exit)) ⌝ }
-{
-    match collecting::collect(text, at, list) {
-        Listed::Whole(count) => reply_answers(n, l, p, count, table, list, answers, out),
-        Listed::BadBehind(count) => messages::bad_line(out, count as u32 + 2),
-        Listed::Longer => messages::too_long(out),
-    }
-}
-
-// The reply behind a first line that names these sizes.
-fn reply_sizes(
-    text: &[u8],
-    at: usize,
-    n: u32,
-    l: u32,
-    p: u32,
+    z: Table,
     table: &mut [u32],
     list: &mut [u32],
     answers: &mut [u32],
@@ -97,10 +72,14 @@ fn reply_sizes(
 ) -> usize
     requires { ⌜ 0 < at ⌝ }
     requires { ⌜ Room (now table) (now list) (now answers) (now out) ⌝ }
-    ensures { λ r. ⌜ Puts (now (out .entry)) 0 (replyOf (sizes n l p) (drop at (now (text .entry)))) r (now (out .exit)) ⌝ }
+    ensures { λ r. ⌜ Puts (now (out .entry)) 0 (replyOf (shape z) (drop at (now (text .entry)))) r (now (out .exit)) ⌝ }
 {
-    if answering::is_admissible(n, l, p) {
-        return reply_behind(text, at, n, l, p, table, list, answers, out);
+    if answering::is_admissible(z) {
+        return match collecting::collect(text, at, list) {
+            Listed::Whole(count) => reply_answers(z, count, table, list, answers, out),
+            Listed::BadBehind(count) => messages::bad_line(out, count as u32 + 2),
+            Listed::Longer => messages::too_long(out),
+        };
     }
     messages::bad_line(out, 1)
 }
@@ -120,12 +99,10 @@ fn reply_text(
         return messages::too_long(out);
     }
     match lines::read_line(text, 0) {
-        Line::Good { a, b, c, next, .. } => reply_sizes(
+        Line::Good { a, b, c, next, .. } => reply_behind(
             text,
             next,
-            a,
-            b,
-            c,
+            Table::new(a, b, c),
             table,
             list,
             answers,

@@ -1,7 +1,6 @@
 -- `script::reply_answers` meets its contract. Assumes nothing.
 use borrow.Author.Needs.{needs}
-use Prim.Native.Nat.{_*_}
-use mathlib.Core.Path.{sym, _∙_}
+use mathlib.Core.Path.{sym}
 use lib.Seq.{length-take-le}
 use Rattle.script.specs.MadeLaws.{puts-answers}
 use Rattle.script.proofs.reply_answers.Statement.{statement}

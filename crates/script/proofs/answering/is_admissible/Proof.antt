@@ -1,20 +1,18 @@
 -- `script::answering::is_admissible` meets its contract. Assumes nothing.
 use borrow.Author.Needs.{needs}
+use Rattle.tables.specs.Shape.{shape}
 use Rattle.script.specs.AnswersLaws.{admissible-if, inadmissible}
 use Rattle.script.proofs.answering.is_admissible.Statement.{statement}
 use Rattle.script.proofs.answering.is_admissible.Tie as tie
-
-new-requires : tie.Need-new-requires
-new-requires c κs = search needs
 
 is-within-requires : tie.Need-is-within-requires
 is-within-requires c κs = search needs
 
 returns : tie.Need-returns
-returns c = admissible-if _ (c .before .before .new .ensures) (c .before .is-within .ensures) (c .if1 .taken)
+returns c = admissible-if (shape (c .before .before .before .args .z)) (c .before .before .is-within .ensures) (c .before .if1 .taken)
 
 returns-2 : tie.Need-returns-2
-returns-2 c = inadmissible _ (c .before .before .new .ensures) (c .before .is-within .ensures) (c .if1 .left)
+returns-2 c = inadmissible (shape (c .before .before .args .z)) (c .before .is-within .ensures) (c .if1 .left)
 
 pub is-admissible-spec : {M : Type 1} → statement M
-is-admissible-spec = tie.close (tie.spec new-requires is-within-requires returns returns-2)
+is-admissible-spec = tie.close (tie.spec is-within-requires returns returns-2)

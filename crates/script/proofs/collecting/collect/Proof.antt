@@ -2,7 +2,7 @@
 -- text. Assumes nothing.
 use borrow.Author.Needs.{needs}
 use Prim.Native.Nat.{_≤_, _-_}
-use mathlib.Core.Path.{_≡_, refl, _∙_}
+use mathlib.Core.Path.{_≡_, refl}
 use lib.ListN.{length}
 use Rattle.script.specs.ListedLaws.{Listing, listing-starts, listing-ends, listing-longer, listing-bad, listing-on}
 use Rattle.script.proofs.collecting.collect.Statement.{statement}

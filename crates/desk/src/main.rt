@@ -8,20 +8,20 @@ use libc::STDOUT_FILENO;
 fn serve(
     text: &mut [u8],
     table: &mut [u32],
-    list: &mut [u32],
+    steps: &mut [u32],
     answers: &mut [u32],
     out: &mut [u8],
 ) {
     let count = io::read_full(STDIN_FILENO, text);
-    let written = script::reply(&text[..count], table, list, answers, out);
+    let written = script::reply(&text[..count], table, steps, answers, out);
     io::write_all(STDOUT_FILENO, &out[..written]);
 }
 
 fn main() {
     let mut text = [0u8; script::MOST_BYTES + 1];
     let mut table = [0u32; script::TABLE_WORDS];
-    let mut list = [0u32; script::LIST_WORDS];
-    let mut answers = [0u32; script::LIST_WORDS];
+    let mut steps = [0u32; script::STEP_WORDS];
+    let mut answers = [0u32; script::STEP_WORDS];
     let mut out = [0u8; script::OUT_BYTES];
-    serve(&mut text, &mut table, &mut list, &mut answers, &mut out);
+    serve(&mut text, &mut table, &mut steps, &mut answers, &mut out);
 }

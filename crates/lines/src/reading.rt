@@ -21,10 +21,10 @@ fn is_at(text: &[u8], at: usize, byte: u8) -> bool
 fn is_digit(byte: u8) -> bool
     ensures { λ r. ⌜ r ≡ isDigit byte ⌝ }
 {
-    if byte < 48 {
+    if byte < b'0' {
         return false;
     }
-    byte <= 57
+    byte <= b'9'
 }
 
 // A number whose first digits say `sofar`, and whose other digits stand from a place on.
@@ -39,7 +39,7 @@ fn more_digits(text: &[u8], from: usize, sofar: u32) -> Number
         if !is_digit(byte) {
             return Number::Good(value as u32, at);
         }
-        value = value * 10 + (byte - 48) as u64;
+        value = value * 10 + (byte - b'0') as u64;
         if 4294967295 < value {
             return Number::Bad;
         }
@@ -59,17 +59,17 @@ fn number_at(text: &[u8], at: usize) -> Number
     if !is_digit(byte) {
         return Number::Bad;
     }
-    if byte == 48 {
+    if byte == b'0' {
         return Number::Good(0, at + 1);
     }
-    more_digits(text, at + 1, (byte - 48) as u32)
+    more_digits(text, at + 1, (byte - b'0') as u32)
 }
 
 // The number behind a space.
 fn field_at(text: &[u8], at: usize) -> Number
     ensures { λ r. ⌜ NumberPromise (now (text .entry)) (readField (drop at (now (text .entry)))) r ⌝ }
 {
-    if is_at(text, at, 32) {
+    if is_at(text, at, b' ') {
         return number_at(text, at + 1);
     }
     Number::Bad
@@ -94,7 +94,7 @@ fn fields_at(text: &[u8], from: usize, count: usize, words: &mut [u32]) -> Place
             }
         }
     }
-    if is_at(text, at, 10) {
+    if is_at(text, at, b'\n') {
         return Place::At(at + 1);
     }
     Place::Bad
@@ -105,11 +105,11 @@ fn kind_of(letter: u8) -> u32
     ensures { λ r. ⌜ r ≡ kindOf letter ⌝ }
 {
     match letter {
-        111 => 1,
-        99 => 2,
-        114 => 3,
-        119 => 4,
-        120 => 5,
+        b'o' => 1,
+        b'c' => 2,
+        b'r' => 3,
+        b'w' => 4,
+        b'x' => 5,
         _ => 0,
     }
 }

@@ -25,11 +25,11 @@ pub fn put_number(out: &mut [u8], at: usize, x: u32) -> usize
     ensures { λ r. ⌜ Puts (now (out .entry)) at (decimal x) r (now (out .exit)) ⌝ }
 {
     if x < 10 {
-        out[at] = 48 + x as u8;
+        out[at] = b'0' + x as u8;
         return at + 1;
     }
     let last = put_number(out, at, x / 10);
-    out[last] = 48 + (x % 10) as u8;
+    out[last] = b'0' + (x % 10) as u8;
     last + 1
 }
 
@@ -39,7 +39,7 @@ fn put_field(out: &mut [u8], at: usize, x: u32) -> usize
     ensures { λ r. ⌜ Puts (now (out .entry)) at (32 ∷ decimal x) r (now (out .exit)) ⌝ }
     ensures within { λ r. ⌜ r ≤ at + 11 ⌝ }
 {
-    out[at] = 32;
+    out[at] = b' ';
     put_number(out, at + 1, x)
 }
 
@@ -54,7 +54,7 @@ fn put_answer(out: &mut [u8], at: usize, words: &[u32], from: usize) -> usize
     let origin = put_field(out, server, words[from + 2]);
     let clock = put_field(out, origin, words[from + 3]);
     let value = put_field(out, clock, words[from + 4]);
-    out[value] = 10;
+    out[value] = b'\n';
     value + 1
 }
 

@@ -17,16 +17,16 @@ answersOf z steps = walk (fresh z) (stepsOf steps) .answers
 
 -- Room for the largest table of a script, for 512 steps and their answers, and for an answer's line 55 bytes: five numbers of at most ten
 -- digits, four spaces and a line feed.
-pub record Room (table list answers out : List ℕ) : Type 0 where
+pub record Room (table steps answers out : List ℕ) : Type 0 where
   pub for-table : 9012 ≤ length table
-  pub for-list : 2560 ≤ length list
+  pub for-steps : 2560 ≤ length steps
   pub for-answers : 2560 ≤ length answers
   pub for-out : 28160 ≤ length out
 
 -- The same as a test.
-unfoldable pub roomy : (table list answers out : List ℕ) → Bool
-roomy table list answers out =
-    leb 9012 (length table) && (leb 2560 (length list) && (leb 2560 (length answers) && leb 28160 (length out)))
+unfoldable pub roomy : (table steps answers out : List ℕ) → Bool
+roomy table steps answers out =
+    leb 9012 (length table) && (leb 2560 (length steps) && (leb 2560 (length answers) && leb 28160 (length out)))
 
 -- The reply stands at the front of the buffer, whose other bytes are as they were; r is its length.
 pub record Replied (text out : List ℕ) (r : ℕ) (left : List ℕ) : Type 0 where
@@ -35,9 +35,9 @@ pub record Replied (text out : List ℕ) (r : ℕ) (left : List ℕ) : Type 0 wh
   pub written : left ≡ bytes ++ drop (length bytes) out
   pub count-is : r ≡ length bytes
 
--- The promise of `reply`: with room the reply to the text; without, 0 and nothing altered. What table, list and answers hold after a reply
+-- The promise of `reply`: with room the reply to the text; without, 0 and nothing altered. What table, steps and answers hold after a reply
 -- is not promised: they are room to work in.
-pub record ReplyPromise (text table list answers out : List ℕ) (r : ℕ) (table′ list′ answers′ out′ : List ℕ) : Type 0 where
-  pub with-room : Room table list answers out → Replied text out r out′
-  pub without : (Room table list answers out → ⊥) → (r ≡ 0) × (table′ ≡ table) × (list′ ≡ list) × (answers′ ≡ answers) × (out′ ≡ out)
+pub record ReplyPromise (text table steps answers out : List ℕ) (r : ℕ) (table′ steps′ answers′ out′ : List ℕ) : Type 0 where
+  pub with-room : Room table steps answers out → Replied text out r out′
+  pub without : (Room table steps answers out → ⊥) → (r ≡ 0) × (table′ ≡ table) × (steps′ ≡ steps) × (answers′ ≡ answers) × (out′ ≡ out)
   pub within : r ≤ length out′

@@ -104,23 +104,23 @@ module _ (text : List ℕ) (short : length text ≤ mostBytes) {r : Line} (found
 
 -- ---- with room and without
 
-module _ (table list answers out : List ℕ) where
-  pub roomy-room : roomy table list answers out ≡ true → Room table list answers out
+module _ (table steps answers out : List ℕ) where
+  pub roomy-room : roomy table steps answers out ≡ true → Room table steps answers out
   unfolding roomy
   roomy-room h =
       record {
         for-table = leb-true 9012 (length table) (search (and-left, and-right));
-        for-list = leb-true 2560 (length list) (search (and-left, and-right));
+        for-steps = leb-true 2560 (length steps) (search (and-left, and-right));
         for-answers = leb-true 2560 (length answers) (search (and-left, and-right));
         for-out = leb-true 28160 (length out) (search (and-left, and-right));
       }
 
-  room-roomy : Room table list answers out → roomy table list answers out ≡ true
+  room-roomy : Room table steps answers out → roomy table steps answers out ≡ true
   unfolding roomy
-  room-roomy room = rw (le-leb _ _ (room .for-table), le-leb _ _ (room .for-list), le-leb _ _ (room .for-answers), le-leb _ _ (room .for-out))
+  room-roomy room = rw (le-leb _ _ (room .for-table), le-leb _ _ (room .for-steps), le-leb _ _ (room .for-answers), le-leb _ _ (room .for-out))
 
-  pub replied : (text : List ℕ) {r : ℕ} {table′ list′ answers′ out′ : List ℕ} → Room table list answers out → Puts out 0 (replyTo text) r out′
-      → ReplyPromise text table list answers out r table′ list′ answers′ out′
+  pub replied : (text : List ℕ) {r : ℕ} {table′ steps′ answers′ out′ : List ℕ} → Room table steps answers out → Puts out 0 (replyTo text) r out′
+      → ReplyPromise text table steps answers out r table′ steps′ answers′ out′
   unfolding splice
   replied text room p =
       record {
@@ -129,7 +129,7 @@ module _ (table list answers out : List ℕ) where
         within = omega (arith, p .next, ap length (p .written), length-append (replyTo text) (drop (length (replyTo text)) out));
       }
 
-  pub refused : (text : List ℕ) → roomy table list answers out ≡ false → ReplyPromise text table list answers out 0 table list answers out
+  pub refused : (text : List ℕ) → roomy table steps answers out ≡ false → ReplyPromise text table steps answers out 0 table steps answers out
   refused text h = record { with-room = λ room. true-not-false (room-roomy room) h; without = λ _. (refl, refl, refl, refl, refl); within = omega arith }
 
 -- ---- the promise settles the reply

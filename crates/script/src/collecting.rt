@@ -35,7 +35,7 @@ pub fn collect(text: &[u8], from: usize, steps: &mut [u32]) -> Listed
     let mut at = from;
     let mut count = 0;
     while at < text.len() {
-        if count == 512 {
+        if count == crate::MOST_STEPS {
             return Listed::Longer;
         }
         match lines::read_line(text, at) {

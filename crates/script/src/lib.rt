@@ -16,28 +16,32 @@ mod answering;
 mod collecting;
 mod messages;
 
-// 01, "The desk program": the most bytes of a text.
+// 01, "The desk program": the most bytes and steps of a script, and the most places that it may ask for in a log.
 pub const MOST_BYTES: usize = 16384;
+
+pub const MOST_STEPS: usize = 512;
+
+pub const MOST_PLACES: usize = 128;
 
 // Room for the largest table that a script can ask for, for the words of 512 steps and of their answers, and for 512 lines of at most
 // 55 bytes.
 pub const TABLE_WORDS: usize = 9012;
 
-pub const LIST_WORDS: usize = 2560;
+pub const STEP_WORDS: usize = 2560;
 
 pub const OUT_BYTES: usize = 28160;
 
 // Are the buffers long enough for any script?
-fn has_room(table: &[u32], list: &[u32], answers: &[u32], out: &[u8]) -> bool
-    ensures { λ r. ⌜ r ≡ roomy (now (table .entry)) (now (list .entry)) (now (answers .entry)) (now (out .entry)) ⌝ }
+fn has_room(table: &[u32], steps: &[u32], answers: &[u32], out: &[u8]) -> bool
+    ensures { λ r. ⌜ r ≡ roomy (now (table .entry)) (now (steps .entry)) (now (answers .entry)) (now (out .entry)) ⌝ }
 {
     if table.len() < TABLE_WORDS {
         return false;
     }
-    if list.len() < LIST_WORDS {
+    if steps.len() < STEP_WORDS {
         return false;
     }
-    if answers.len() < LIST_WORDS {
+    if answers.len() < STEP_WORDS {
         return false;
     }
     OUT_BYTES <= out.len()
@@ -48,15 +52,15 @@ fn reply_answers(
     z: Table,
     count: usize,
     table: &mut [u32],
-    list: &[u32],
+    steps: &[u32],
     answers: &mut [u32],
     out: &mut [u8],
 ) -> usize
     requires { ⌜ (admissible (shape z) ≡ true) × (count ≤ 512) ⌝ }
-    requires { ⌜ Room (now table) (now list) (now answers) (now out) ⌝ }
-    ensures { λ r. ⌜ Puts (now (out .entry)) 0 (answerLines (answersOf (shape z) (take (count * 5) (now (list .entry))))) r (now (out .exit)) ⌝ }
+    requires { ⌜ Room (now table) (now steps) (now answers) (now out) ⌝ }
+    ensures { λ r. ⌜ Puts (now (out .entry)) 0 (answerLines (answersOf (shape z) (take (count * 5) (now (steps .entry))))) r (now (out .exit)) ⌝ }
 {
-    answering::answer(z, count, table, list, answers);
+    answering::answer(z, count, table, steps, answers);
     printing::put_answers(out, &answers[..count * 5], count)
 }
 
@@ -66,17 +70,17 @@ fn reply_behind(
     at: usize,
     z: Table,
     table: &mut [u32],
-    list: &mut [u32],
+    steps: &mut [u32],
     answers: &mut [u32],
     out: &mut [u8],
 ) -> usize
     requires { ⌜ 0 < at ⌝ }
-    requires { ⌜ Room (now table) (now list) (now answers) (now out) ⌝ }
+    requires { ⌜ Room (now table) (now steps) (now answers) (now out) ⌝ }
     ensures { λ r. ⌜ Puts (now (out .entry)) 0 (replyOf (shape z) (drop at (now (text .entry)))) r (now (out .exit)) ⌝ }
 {
     if answering::is_admissible(z) {
-        return match collecting::collect(text, at, list) {
-            Listed::Whole(count) => reply_answers(z, count, table, list, answers, out),
+        return match collecting::collect(text, at, steps) {
+            Listed::Whole(count) => reply_answers(z, count, table, steps, answers, out),
             Listed::BadBehind(count) => messages::bad_line(out, count as u32 + 2),
             Listed::Longer => messages::too_long(out),
         };
@@ -88,11 +92,11 @@ fn reply_behind(
 fn reply_text(
     text: &[u8],
     table: &mut [u32],
-    list: &mut [u32],
+    steps: &mut [u32],
     answers: &mut [u32],
     out: &mut [u8],
 ) -> usize
-    requires { ⌜ Room (now table) (now list) (now answers) (now out) ⌝ }
+    requires { ⌜ Room (now table) (now steps) (now answers) (now out) ⌝ }
     ensures { λ r. ⌜ Puts (now (out .entry)) 0 (replyTo (now (text .entry))) r (now (out .exit)) ⌝ }
 {
     if MOST_BYTES < text.len() {
@@ -104,7 +108,7 @@ fn reply_text(
             next,
             Table::new(a, b, c),
             table,
-            list,
+            steps,
             answers,
             out,
         ),
@@ -117,14 +121,14 @@ fn reply_text(
 pub fn reply(
     text: &[u8],
     table: &mut [u32],
-    list: &mut [u32],
+    steps: &mut [u32],
     answers: &mut [u32],
     out: &mut [u8],
 ) -> usize
-    ensures { λ r. ⌜ ReplyPromise (now (text .entry)) (now (table .entry)) (now (list .entry)) (now (answers .entry)) (now (out .entry)) r (now (table .exit)) (now (list .exit)) (now (answers .exit)) (now (out .exit)) ⌝ }
+    ensures { λ r. ⌜ ReplyPromise (now (text .entry)) (now (table .entry)) (now (steps .entry)) (now (answers .entry)) (now (out .entry)) r (now (table .exit)) (now (steps .exit)) (now (answers .exit)) (now (out .exit)) ⌝ }
 {
-    if has_room(table, list, answers, out) {
-        return reply_text(text, table, list, answers, out);
+    if has_room(table, steps, answers, out) {
+        return reply_text(text, table, steps, answers, out);
     }
     0
 }

@@ -19,6 +19,6 @@ pub fn bad_line(out: &mut [u8], k: u32) -> usize
 {
     let words = printing::put_bytes(out, 0, b"bad line ");
     let number = printing::put_number(out, words, k);
-    out[number] = 10;
+    out[number] = b'\n';
     number + 1
 }

@@ -32,7 +32,7 @@ slice-aggregate-run-fresh-3 c = sym (length-take-le _ _ (search needs))
 
 run-fresh-requires : tie.Need-run-fresh-requires
 run-fresh-requires c κs =
-    let steps-long = length-take-le (c .before .before .before .before .before .before .before .args .count * 5) (c .before .before .before .before .before .before .before .args .list .now) (search needs) in
+    let steps-long = length-take-le (c .before .before .before .before .before .before .before .args .count * 5) (c .before .before .before .before .before .before .before .args .steps .now) (search needs) in
     let answers-long = length-take-le (c .before .before .before .before .before .before .before .args .count * 5) (c .before .before .before .before .before .before .before .args .answers .now) (search needs) in
     ((admissible-within (shape (c .before .before .before .before .before .before .before .args .z)) (c .before .before .before .before .before .before .before .pre .0 .0), table-front (shape (c .before .before .before .before .before .before .before .args .z)) (c .before .before .before .before .before .before .before .pre .0 .0) (c .before .before .before .words .ensures .0) (c .before .before .before .before .before .before .before .args .table .now) (c .before .before .before .before .before .before .before .pre .1 .0)), (steps-long ∙ sym answers-long, omega (arith, steps-long)))
 

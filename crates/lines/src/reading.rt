@@ -59,10 +59,10 @@ fn number_at(text: &[u8], at: usize) -> Number
     if !is_digit(byte) {
         return Number::Bad;
     }
-    if byte == b'0' {
-        return Number::Good(0, at + 1);
+    if byte != b'0' {
+        return more_digits(text, at + 1, (byte - b'0') as u32);
     }
-    more_digits(text, at + 1, (byte - b'0') as u32)
+    Number::Good(0, at + 1)
 }
 
 // The number behind a space.

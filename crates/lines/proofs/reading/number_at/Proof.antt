@@ -19,12 +19,6 @@ is-digit-requires c κs = search needs
 returns-2 : tie.Need-returns-2
 returns-2 c = record { found-is = number-no-digit _ _ (c .before .before .before .if1 .left) (failed (c .before .is-digit .ensures) (c .if2 .taken)); within = tt }
 
-add-t9 : tie.Need-add-t9
-add-t9 c = search needs
-
-returns-3 : tie.Need-returns-3
-returns-3 c = record { found-is = number-zero _ _ (c .before .before .before .before .if1 .left) (passed (c .before .before .is-digit .ensures) (c .before .if2 .left)) (c .if3 .taken); within = search needs }
-
 add-more-digits : tie.Need-add-more-digits
 add-more-digits c = search needs
 
@@ -37,8 +31,14 @@ cast-more-digits c = omega (arith, digit-to _ (passed (c .before .before .is-dig
 more-digits-requires : tie.Need-more-digits-requires
 more-digits-requires c κs = search needs
 
+returns-3 : tie.Need-returns-3
+returns-3 c = record { found-is = c .more-digits .ensures .found-is ∙ number-digits _ _ (c .before .before .before .before .before .if1 .left) (passed (c .before .before .before .is-digit .ensures) (c .before .before .if2 .left)) (c .before .if3 .taken); within = c .more-digits .ensures .within }
+
+add-t4 : tie.Need-add-t4
+add-t4 c = search needs
+
 returns-4 : tie.Need-returns-4
-returns-4 c = record { found-is = c .more-digits .ensures .found-is ∙ number-digits _ _ (c .before .before .before .before .before .if1 .left) (passed (c .before .before .before .is-digit .ensures) (c .before .before .if2 .left)) (c .before .if3 .left); within = c .more-digits .ensures .within }
+returns-4 c = record { found-is = number-zero _ _ (c .before .before .before .before .if1 .left) (passed (c .before .before .is-digit .ensures) (c .before .if2 .left)) (c .if3 .left); within = search needs }
 
 pub number-at-spec : {M : Type 1} → statement M
 number-at-spec =
@@ -48,10 +48,10 @@ number-at-spec =
     shared-slice-read-byte
     is-digit-requires
     returns-2
-    add-t9
-    returns-3
     add-more-digits
     sub-more-digits
     cast-more-digits
     more-digits-requires
+    returns-3
+    add-t4
     returns-4)

@@ -71,6 +71,9 @@ run_command ./desk examples
 refused './desk with a folder' 'cannot read'
 run_command ./desk examples/ten-rows.txt examples/ten-rows.txt
 refused './desk with two files' 'one file'
+echo 'desk: the reply could not be written' >"$room/expected"
+./desk examples/ten-rows.txt 2>"$room/got" >/dev/full
+settle 'a reply that finds no room where it goes is told' $?
 
 # In a house of its own with the built program and one source, where dates can be set
 house="$room/a house"

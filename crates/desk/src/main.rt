@@ -1,10 +1,11 @@
 // The desk program: reads a script from standard input and writes the reply to standard output. What it replies is the promise of
 // `script::reply`; this adds the reading and the writing.
+use libc::STDERR_FILENO;
 use libc::STDIN_FILENO;
 use libc::STDOUT_FILENO;
 
 // Reads until the text is full or the input ends, and writes the reply. One byte more than the limit is enough to see that a text is
-// too long.
+// too long. A reply that can't be written is told on standard error.
 fn serve(
     text: &mut [u8],
     table: &mut [u32],
@@ -14,7 +15,9 @@ fn serve(
 ) {
     let count = io::read_full(STDIN_FILENO, text);
     let written = script::reply(&text[..count], table, steps, answers, out);
-    io::write_all(STDOUT_FILENO, &out[..written]);
+    if !io::write_all(STDOUT_FILENO, &out[..written]) {
+        io::write_all(STDERR_FILENO, b"desk: the reply could not be written\n");
+    }
 }
 
 fn main() {

@@ -27,11 +27,11 @@ digit-passes : (d : ℕ) → d < 10 → isDigit (48 + d) ≡ true
 unfolding isDigit
 digit-passes d h = and-both (leb 48 (48 + d)) (leb (48 + d) 57) (le-leb 48 (48 + d) (omega arith)) (le-leb (48 + d) 57 (omega arith))
 
-digit-low : (b : ℕ) → isDigit b ≡ true → 48 ≤ b
+pub digit-low : (b : ℕ) → isDigit b ≡ true → 48 ≤ b
 unfolding isDigit
 digit-low b h = leb-true 48 b (and-left (leb 48 b) (leb b 57) h)
 
-digit-high : (b : ℕ) → isDigit b ≡ true → b ≤ 57
+pub digit-high : (b : ℕ) → isDigit b ≡ true → b ≤ 57
 unfolding isDigit
 digit-high b h = leb-true b 57 (and-right (leb 48 b) (leb b 57) h)
 

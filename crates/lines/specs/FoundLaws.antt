@@ -6,11 +6,11 @@ use mathlib.Core.List.{List, [], _∷_}
 use mathlib.Core.Option.{none, some}
 use mathlib.Core.Path.{_≡_, sym, _∙_, ap}
 use native.Mathlib.Numerals.{add-one}
-use borrow.Author.Tests.{lt-leb, le-leb, leb-true, eq-eqb, ne-eqb}
+use borrow.Author.Tests.{lt-leb, le-leb, eq-eqb, ne-eqb}
 use lib.Dec.{leb, eqb}
 use lib.ListN.{length, getD, drop, drop-of-length-le}
 use lib.Seq.{drop-cons, drop-drop}
-use Rattle.words.specs.TestLaws.{cond-true, cond-false, and-left, and-right, true-not-false}
+use Rattle.words.specs.TestLaws.{cond-true, cond-false, true-not-false}
 use Rattle.words.specs.CaseLaws.{lt-or-le}
 use Rattle.lines.specs.Decimal.{greatest}
 use Rattle.lines.specs.Read.{begins, isDigit, more, readNumber, readField}
@@ -57,15 +57,6 @@ module _ (text : List ℕ) (at : ℕ) where
 
     pub more-overflows : at < length text → isDigit (getD text at 0) ≡ true → greatest < shifted → more v (drop at text) ≡ none
     more-overflows h is over = more-digit h is ∙ cond-false (leb shifted greatest) _ _ (lt-leb shifted greatest over)
-
--- A digit is one of the bytes 48 to 57.
-pub digit-from : (b : ℕ) → isDigit b ≡ true → 48 ≤ b
-unfolding isDigit
-digit-from b h = leb-true 48 b (and-left (leb 48 b) (leb b 57) h)
-
-pub digit-to : (b : ℕ) → isDigit b ≡ true → b ≤ 57
-unfolding isDigit
-digit-to b h = leb-true b 57 (and-right (leb 48 b) (leb b 57) h)
 
 -- ---- a number
 

@@ -2,9 +2,8 @@
 use Prim.Native.Nat.{ℕ}
 use mathlib.Core.Bool.{true}
 use mathlib.Core.List.{List, [], _∷_}
-use mathlib.Core.Option.{Option, none, some}
+use mathlib.Core.Option.{Option, none, some, Option·none-ne-some, Option·some-injective}
 use mathlib.Core.Path.{_≡_, refl, ap, subst}
-use native.Mathlib.Omega.{arith}
 use borrow.Author.Tests.{eqb-true}
 use lib.ListN.{drop}
 use Rattle.words.specs.TestLaws.{true-not-false}
@@ -12,14 +11,10 @@ use Rattle.lines.specs.Read.{Got, chain, begins}
 
 -- A fact of what was found is one of what is said to be found; nothing is not something.
 pub some-is : {A : Type 0} (P : A → Type 0) {r g : A} → P r → some r ≡ some g → P g
-some-is P {r} {g} p h =
-    let e : r ≡ g = cc in
-    subst P e p
+some-is P {r} {g} p h = subst P (Option·some-injective r g h) p
 
 pub none-some : {A B : Type 0} {a : A} → none ≡ some a → B
-none-some h =
-    let z : _≡_ {A = ℕ} 0 1 = cc in
-    absurd (omega arith)
+none-some {a = a} h = absurd (Option·none-ne-some a h)
 
 -- Two readings one after the other found something if both did.
 pub record Chained {A B : Type 0} (first : Option (Got A)) (next : A → List ℕ → Option (Got B)) (g : Got B) : Type 0 where

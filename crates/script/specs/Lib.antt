@@ -5,6 +5,6 @@ pub mod ReplyLaws
 pub mod TenLines
 pub mod Listed
 pub mod ListedLaws
-pub mod Answers
-pub mod AnswersLaws
-pub mod MadeLaws
+pub mod Promised
+pub mod FreshLaws
+pub mod PromisedLaws

@@ -32,20 +32,11 @@ unfolding pushAll
 pushAll-more [] x o = refl
 pushAll-more (y ∷ xs) x o = ap (push y) (pushAll-more xs x o)
 
-pushAll-whole : (xs : List Step) → pushAll xs (whole []) ≡ whole xs
-unfolding pushAll push
-pushAll-whole [] = refl
-pushAll-whole (x ∷ xs) = ap (push x) (pushAll-whole xs)
-
-pushAll-bad : (xs : List Step) → pushAll xs (badBehind 0) ≡ badBehind (length xs)
-unfolding pushAll push
-pushAll-bad [] = refl
-pushAll-bad (x ∷ xs) = ap (push x) (pushAll-bad xs)
-
-pushAll-longer : (xs : List Step) → pushAll xs longer ≡ longer
-unfolding pushAll push
-pushAll-longer [] = refl
-pushAll-longer (x ∷ xs) = ap (push x) (pushAll-longer xs)
+-- An ending that each step is pushed before.
+pushAll-as : (outcome : List Step → Collected) → ((x : Step) (xs : List Step) → outcome (x ∷ xs) ≡ push x (outcome xs)) → (xs : List Step) → pushAll xs (outcome []) ≡ outcome xs
+unfolding pushAll
+pushAll-as outcome pushes [] = refl
+pushAll-as outcome pushes (x ∷ xs) = ap (push x) (pushAll-as outcome pushes xs) ∙ sym (pushes x xs)
 
 stepWords-append : (xs ys : List Step) → stepWords (xs ++ ys) ≡ stepWords xs ++ stepWords ys
 unfolding stepWords
@@ -72,11 +63,12 @@ module _ (text : List ℕ) (from : ℕ) where
 
     -- The text has ended.
     pub listing-ends : length text ≤ at → count ≤ mostSteps → ListedPromise (drop from text) (Whole count) words
+    unfolding push
     listing-ends h few =
         record {
           found-is =
               ap whole (ap (λ ws. stepsOf (take (count * 5) ws)) (so .words-are) ∙ (ap stepsOf (take-at (stepWords (so .steps)) (so .behind) (count * 5) words-count) ∙ stepsOf-stepWords (so .steps)))
-              ∙ (sym (pushAll-whole (so .steps))
+              ∙ (sym (pushAll-as whole (λ x xs. refl) (so .steps))
               ∙ (ap (pushAll (so .steps)) (sym (ap (collect (mostSteps - count)) (drop-of-length-le text {i = at} h) ∙ collect-ended (mostSteps - count)))
               ∙ so .so-far));
           few = few;
@@ -87,11 +79,12 @@ module _ (text : List ℕ) (from : ℕ) where
 
     -- There is no room for another step.
     pub listing-longer : at < length text → count ≡ mostSteps → ListedPromise (drop from text) Longer words
+    unfolding push
     listing-longer h full =
         let none-left : mostSteps - count ≡ 0 = omega arith in
         record {
           found-is =
-              sym (pushAll-longer (so .steps))
+              sym (pushAll-as (λ xs. longer) (λ x xs. refl) (so .steps))
               ∙ (ap (pushAll (so .steps)) (sym (ap (λ r. collect r (drop at text)) none-left ∙ collect-full (drop at text) (there h)))
               ∙ so .so-far);
           few = tt;
@@ -106,11 +99,12 @@ module _ (text : List ℕ) (from : ℕ) where
 
       -- The next line is bad,
       pub listing-bad : r ≡ line.Bad → ListedPromise (drop from text) (BadBehind count) words
+      unfolding push
       listing-bad e =
           record {
             found-is =
                 ap badBehind (sym (so .count-is))
-                ∙ (sym (pushAll-bad (so .steps))
+                ∙ (sym (pushAll-as (λ xs. badBehind (length xs)) (λ x xs. refl) (so .steps))
                 ∙ (ap (pushAll (so .steps)) (sym (ap (λ m. collect m (drop at text)) room ∙ collect-unread (mostSteps - (count + 1)) (drop at text) (there h) (is-step (ap (lineIn text) e))))
                 ∙ so .so-far));
             few = omega arith;

@@ -8,7 +8,7 @@ ghost use Rattle.tables.specs.Layout.{size};
 ghost use Rattle.tables.specs.Shape.{shape};
 ghost use Rattle.rules.specs.Step.{answerWords};
 ghost use Rattle.script.specs.Reply.{admissible};
-ghost use Rattle.script.specs.Answers.{answersOf};
+ghost use Rattle.script.specs.Promised.{answersOf};
 use tables::Table;
 
 // Are these sizes that a script may ask for?

@@ -6,7 +6,7 @@ ghost use lib.ListN.{length, take, drop};
 ghost use Rattle.tables.specs.Shape.{shape};
 ghost use Rattle.script.specs.Reply.{admissible, answerLines};
 ghost use Rattle.script.specs.Collect.{replyOf, replyTo};
-ghost use Rattle.script.specs.Answers.{answersOf, Room, roomy, ReplyPromise};
+ghost use Rattle.script.specs.Promised.{answersOf, Room, roomy, ReplyPromise};
 ghost use Rattle.printing.specs.Printed.{Puts};
 use collecting::Listed;
 use lines::Line;

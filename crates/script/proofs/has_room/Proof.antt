@@ -1,6 +1,6 @@
 -- `script::has_room` meets its contract. Assumes nothing.
 use borrow.Author.Tests.{lt-leb, le-leb}
-use Rattle.script.specs.Answers.{roomy}
+use Rattle.script.specs.Promised.{roomy}
 use Rattle.script.proofs.has_room.Statement.{statement}
 use Rattle.script.proofs.has_room.Tie as tie
 

@@ -1,7 +1,7 @@
 -- `script::reply` meets its contract. Assumes nothing.
 use borrow.Author.Needs.{needs}
 use mathlib.Core.Path.{sym, _∙_}
-use Rattle.script.specs.MadeLaws.{roomy-room, replied, refused}
+use Rattle.script.specs.PromisedLaws.{roomy-room, replied, refused}
 use Rattle.script.proofs.reply.Statement.{statement}
 use Rattle.script.proofs.reply.Tie as tie
 

@@ -2,7 +2,7 @@
 use borrow.Author.Needs.{needs}
 use mathlib.Core.Path.{sym}
 use lib.Seq.{length-take-le}
-use Rattle.script.specs.MadeLaws.{puts-answers}
+use Rattle.script.specs.PromisedLaws.{puts-answers}
 use Rattle.script.proofs.reply_answers.Statement.{statement}
 use Rattle.script.proofs.reply_answers.Tie as tie
 

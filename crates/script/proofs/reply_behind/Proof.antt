@@ -2,7 +2,7 @@
 use borrow.Author.Needs.{needs}
 use mathlib.Core.Path.{sym, _∙_}
 use Rattle.tables.specs.Shape.{shape}
-use Rattle.script.specs.MadeLaws.{badLine-fits, behind-few, behind-whole, behind-bad, behind-longer, sizes-good, sizes-bad}
+use Rattle.script.specs.PromisedLaws.{badLine-fits, behind-few, behind-whole, behind-bad, behind-longer, sizes-good, sizes-bad}
 use native.Mathlib.Omega.{arith}
 use Rattle.script.proofs.reply_behind.Statement.{statement}
 use Rattle.script.proofs.reply_behind.Tie as tie

@@ -2,7 +2,7 @@
 use borrow.Author.Needs.{needs}
 use mathlib.Core.Path.{sym}
 use Rattle.script.specs.ReplyLaws.{long-one}
-use Rattle.script.specs.MadeLaws.{puts-as, badLine-fits, first-later, first-good, first-bad}
+use Rattle.script.specs.PromisedLaws.{puts-as, badLine-fits, first-later, first-good, first-bad}
 use Rattle.script.proofs.reply_text.Statement.{statement}
 use Rattle.script.proofs.reply_text.Tie as tie
 

@@ -7,7 +7,8 @@ use lib.ListN.{length, drop}
 use Rattle.words.specs.CheckLaws.{failed, passed}
 use Rattle.lines.specs.Decimal.{greatest}
 use Rattle.lines.specs.Read.{more}
-use Rattle.lines.specs.FoundLaws.{more-stops, more-ends, more-passes, more-overflows, digit-from, digit-to}
+use Rattle.lines.specs.DigitLaws.{digit-low, digit-high}
+use Rattle.lines.specs.FoundLaws.{more-stops, more-ends, more-passes, more-overflows}
 use native.Mathlib.Omega.{arith}
 use Rattle.lines.proofs.reading.more_digits.Statement.{statement}
 use Rattle.lines.proofs.reading.more_digits.Tie as tie
@@ -37,13 +38,13 @@ mul-value : tie.Need-mul-value Inv-loop μ-loop
 mul-value c = search needs
 
 sub-value : tie.Need-sub-value Inv-loop μ-loop
-sub-value c = omega (arith, digit-from _ (passed (c .before .is-digit .ensures) (c .if1 .left)))
+sub-value c = omega (arith, digit-low _ (passed (c .before .is-digit .ensures) (c .if1 .left)))
 
 cast-value : tie.Need-cast-value Inv-loop μ-loop
-cast-value c = omega (arith, digit-to _ (passed (c .before .is-digit .ensures) (c .if1 .left)))
+cast-value c = omega (arith, digit-high _ (passed (c .before .is-digit .ensures) (c .if1 .left)))
 
 add-value : tie.Need-add-value Inv-loop μ-loop
-add-value c = omega (arith, digit-to _ (passed (c .before .is-digit .ensures) (c .if1 .left)))
+add-value c = omega (arith, digit-high _ (passed (c .before .is-digit .ensures) (c .if1 .left)))
 
 returns-2 : tie.Need-returns-2 Inv-loop μ-loop
 returns-2 c = record { found-is = sym (more-overflows _ _ _ (c .before .before .before .before .loop-test .taken) (passed (c .before .before .is-digit .ensures) (c .before .if1 .left)) (c .if2 .taken)) ∙ c .before .before .before .before .before .loop .inv .2; within = tt }

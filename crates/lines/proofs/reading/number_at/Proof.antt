@@ -2,7 +2,8 @@
 use borrow.Author.Needs.{needs}
 use mathlib.Core.Path.{_∙_}
 use Rattle.words.specs.CheckLaws.{failed, passed}
-use Rattle.lines.specs.FoundLaws.{number-nothing, number-no-digit, number-zero, number-digits, digit-from, digit-to}
+use Rattle.lines.specs.DigitLaws.{digit-low, digit-high}
+use Rattle.lines.specs.FoundLaws.{number-nothing, number-no-digit, number-zero, number-digits}
 use native.Mathlib.Omega.{arith}
 use Rattle.lines.proofs.reading.number_at.Statement.{statement}
 use Rattle.lines.proofs.reading.number_at.Tie as tie
@@ -23,10 +24,10 @@ add-more-digits : tie.Need-add-more-digits
 add-more-digits c = search needs
 
 sub-more-digits : tie.Need-sub-more-digits
-sub-more-digits c = omega (arith, digit-from _ (passed (c .before .before .is-digit .ensures) (c .before .if2 .left)))
+sub-more-digits c = omega (arith, digit-low _ (passed (c .before .before .is-digit .ensures) (c .before .if2 .left)))
 
 cast-more-digits : tie.Need-cast-more-digits
-cast-more-digits c = omega (arith, digit-to _ (passed (c .before .before .is-digit .ensures) (c .before .if2 .left)))
+cast-more-digits c = omega (arith, digit-high _ (passed (c .before .before .is-digit .ensures) (c .before .if2 .left)))
 
 more-digits-requires : tie.Need-more-digits-requires
 more-digits-requires c κs = search needs

@@ -4,7 +4,7 @@ use Prim.Native.Nat.{_*_}
 use mathlib.Core.Path.{sym, _∙_}
 use lib.Seq.{take-at, length-take-le}
 use Rattle.tables.specs.Shape.{shape}
-use Rattle.script.specs.AnswersLaws.{admissible-within, table-room, table-front}
+use Rattle.script.specs.FreshLaws.{admissible-within, table-room, table-front}
 use native.Mathlib.Omega.{arith}
 use Rattle.script.proofs.answering.answer.Statement.{statement}
 use Rattle.script.proofs.answering.answer.Tie as tie

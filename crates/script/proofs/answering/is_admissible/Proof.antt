@@ -1,7 +1,7 @@
 -- `script::answering::is_admissible` meets its contract. Assumes nothing.
 use borrow.Author.Needs.{needs}
 use Rattle.tables.specs.Shape.{shape}
-use Rattle.script.specs.AnswersLaws.{admissible-if, inadmissible}
+use Rattle.script.specs.FreshLaws.{admissible-if, inadmissible}
 use Rattle.script.proofs.answering.is_admissible.Statement.{statement}
 use Rattle.script.proofs.answering.is_admissible.Tie as tie
 

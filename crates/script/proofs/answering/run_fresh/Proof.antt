@@ -1,7 +1,7 @@
 -- `script::answering::run_fresh` meets its contract. Assumes nothing.
 use borrow.Author.Needs.{needs}
 use Rattle.tables.specs.Shape.{shape}
-use Rattle.script.specs.AnswersLaws.{made-fresh, fresh-answers}
+use Rattle.script.specs.FreshLaws.{made-fresh, fresh-answers}
 use Rattle.script.proofs.answering.run_fresh.Statement.{statement}
 use Rattle.script.proofs.answering.run_fresh.Tie as tie
 

@@ -7,7 +7,7 @@ use native.Mathlib.Omega.{arith}
 use Rattle.lines.specs.Line.{fields}
 use Rattle.script.specs.Reply.{badLine}
 use Rattle.printing.specs.PrintedLaws.{puts-then, puts-more}
-use Rattle.script.specs.MadeLaws.{length-badLine}
+use Rattle.script.specs.PromisedLaws.{length-badLine}
 use Rattle.script.proofs.messages.bad_line.Statement.{statement}
 use Rattle.script.proofs.messages.bad_line.Tie as tie
 

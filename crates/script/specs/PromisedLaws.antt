@@ -24,7 +24,7 @@ use Rattle.printing.specs.Printed.{Puts, wordLines}
 use Rattle.script.specs.Reply.{answerLine, mostBytes, mostSteps, admissible, answerLines, tooLong, badLine}
 use Rattle.script.specs.Collect.{collect, sizesOf, replyBehind, replyOf, replyFrom, replyTo}
 use Rattle.script.specs.ReplyLaws.{reply-found, reply-settled, short-one}
-use Rattle.script.specs.Answers.{answersOf, Room, roomy, Replied, ReplyPromise}
+use Rattle.script.specs.Promised.{answersOf, Room, roomy, Replied, ReplyPromise}
 use Rattle.script.specs.Listed.{collectedIn, Few, ListedPromise}
 use Rattle.script.specs.declared.collecting.Listed.{Listed}
 use Rattle.script.specs.declared.collecting.Listed.the-variants.{Whole, BadBehind, Longer}

@@ -22,7 +22,7 @@ use Rattle.rules.specs.Step.{stepsOf, answerWords}
 use Rattle.rules.specs.Calls.{walk, lengthsFit, RunPromise}
 use Rattle.rules.specs.RunLaws.{run-fits}
 use Rattle.script.specs.Reply.{admissible}
-use Rattle.script.specs.Answers.{answersOf}
+use Rattle.script.specs.Promised.{answersOf}
 
 -- ---- admissible sizes
 

@@ -40,9 +40,13 @@ unfolding feeds fields decimal
 feeds-fields [] = refl
 feeds-fields (x ∷ xs) = omega (arith, feeds-append (digits x x) (fields xs), feeds-digits x x, feeds-fields xs)
 
+feeds-numbers : (x : ℕ) (xs : List ℕ) → feeds (numbers x xs) ≡ 1
+unfolding numbers decimal
+feeds-numbers x xs = omega (arith, feeds-append (digits x x) (fields xs), feeds-digits x x, feeds-fields xs)
+
 pub feeds-sizeLine : (z : Size) → feeds (sizeLine z) ≡ 1
-unfolding sizeLine numbers decimal
-feeds-sizeLine z = omega (arith, feeds-append (digits (z .n) (z .n)) (fields (z .l ∷ z .p ∷ [])), feeds-digits (z .n) (z .n), feeds-fields (z .l ∷ z .p ∷ []))
+unfolding sizeLine
+feeds-sizeLine z = feeds-numbers _ _
 
 pub feeds-stepLine : {x : Step} {line : List ℕ} → StepLine x line → feeds line ≡ 1
 unfolding feeds

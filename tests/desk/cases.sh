@@ -1,4 +1,4 @@
-# The form of a text: which lines are good, and the number of the first bad one. Read by tests/run.
+# The form of a text: which lines are good, and the number of the first bad one. Read by tests/desk/run.
 # Inputs and answers are written as printf takes them; a byte that can't be seen stands as \r, \t or \nnn in octal.
 
 # A first line that is bad, with a good step after it.

@@ -1,4 +1,4 @@
-# What steps answer: each code, and the rules that decide between codes, servers and writes. Read by tests/run.
+# What steps answer: each code, and the rules that decide between codes, servers and writes. Read by tests/desk/run.
 
 # Line 1, then steps, each with its answer after it.
 answered() { # NAME LINE-1 [STEP ANSWER]...

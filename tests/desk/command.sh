@@ -1,12 +1,13 @@
-# The command ./desk: how it takes a script, how it refuses, and when it builds. Read by tests/run.
+# The command ./desk: how it takes a script, how it refuses, and when it builds. Read by tests/desk/run.
 # Nothing is built here: in front of the path stands an `rt` of each case's own.
 
 kit=$room/kit
 mkdir "$kit"
+true_rt=$(command -v rt)
 
-# The body of the `rt` that ./desk will find.
+# The body of the `rt` that ./desk will find. Where the kit stands it says truly: on some processors its emulator runs the program.
 rt_is() { # SHELL-TEXT
-    printf '#!/bin/sh\n%s\n' "$1" >"$kit/rt"
+    printf '#!/bin/sh\n[ "$1" = doc ] && exec %q doc\n%s\n' "$true_rt" "$1" >"$kit/rt"
     chmod +x "$kit/rt"
 }
 
@@ -77,8 +78,9 @@ settle 'a reply that finds no room where it goes is told' $?
 
 # In a house of its own with the built program and one source, where dates can be set
 house="$room/a house"
-mkdir -p "$house/crates/desk/src" "$house/target/bin"
+mkdir -p "$house/crates/desk/src" "$house/target/bin" "$house/tools"
 cp desk "$house/desk"
+cp tools/emulator.sh "$house/tools/emulator.sh"
 cp "$program" "$house/built"
 touch -d '2001-01-01' "$house/crates.txt" "$house/crates/desk/src/main.rt" "$house/crates/desk/src"
 cp "$house/built" "$house/target/bin/desk"

@@ -1,4 +1,4 @@
-# Whole scripts, each NAME.txt with its answers in NAME.out. Read by tests/run.
+# Whole scripts, each NAME.txt with its answers in NAME.out. Read by tests/desk/run.
 
 # Those of examples/, which its README tells line by line
 for script in examples/*.txt; do

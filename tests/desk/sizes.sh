@@ -1,4 +1,4 @@
-# How long a text may be: 16,384 bytes, and 513 lines of them. Read by tests/run.
+# How long a text may be: 16,384 bytes, and 513 lines of them. Read by tests/desk/run.
 
 # COUNT lines, all alike.
 alike() { # COUNT LINE

@@ -17,6 +17,7 @@ mod program;
 mod random;
 mod report;
 mod schedule;
+mod sizes;
 mod slips;
 mod suite;
 mod trials;

@@ -73,11 +73,10 @@ pub fn schedule_of_case(random: &mut Random, case: u64) -> Schedule {
     };
     let slots = random.one_of(&[1, 2, 3, 16]);
     let count = random.between(5, 60);
-    let words = 4 + servers * (servers + 1) + 4 * servers * places + slots * (2 * servers + 2);
     let mut events = Vec::new();
     for step in steps(random, [servers, places, slots], count) {
         while random.chance(30) {
-            events.push(change(random, words));
+            events.push(change(random, servers, places, slots));
         }
         let step = if random.chance(4) { disturbed(random, step) } else { step };
         events.push(Event::Step(step));
@@ -85,17 +84,26 @@ pub fn schedule_of_case(random: &mut Random, case: u64) -> Schedule {
     Schedule { servers, places, slots, events }
 }
 
-/// A change of one word of a table, or of a word past its end, which is none.
-fn change(random: &mut Random, words: u32) -> Event {
+/// A change of one word of a table, in its header, its vectors and counts, the first places of its logs, its slots, or anywhere.
+fn change(random: &mut Random, servers: u32, places: u32, slots: u32) -> Event {
+    let counts = servers * (servers + 1);
+    let (logs, slot) = (4 * servers * places, 2 * servers + 2);
+    let words = 4 + counts + logs + slots * slot;
     let place = match random.below(10) {
         0 => random.below(5),
-        1 => words - 1 - random.below(words.min(40)),
+        1 | 2 => 4 + random.below(counts),
+        3 | 4 => 4 + counts + 4 * places * random.below(servers) + random.below(4 * places.min(6)),
+        5 | 6 => 4 + counts + logs + slot * random.below(slots) + random.below(slot),
+        // Guarantees and last-used.
+        7 => 4 + counts + logs + slot * random.below(slots) + random.below(2),
         _ => random.below(words),
     };
-    match random.below(6) {
+    match random.below(7) {
         0 => Event::Becomes(place, 0),
         1 | 2 => Event::Grows(place, 1),
         3 | 4 => Event::Grows(place, u32::MAX),
+        // At the edges of servers, guarantees and last-used.
+        5 => Event::Becomes(place, random.one_of(&[servers - 1, servers, servers + 1, 15, 16, 17])),
         _ => Event::Becomes(place, number(random)),
     }
 }

@@ -1,4 +1,4 @@
-//! The whole run: kept cases, random scripts, schedules in words, damaged texts, planted slips, and what was come upon.
+//! The whole run: kept cases, sizes at the limits, random scripts, schedules in words, damaged texts, planted slips, and what was come upon.
 
 use crate::case::{Bench, Case, Judge};
 use crate::coverage::Coverage;
@@ -9,6 +9,7 @@ use crate::making::{schedule_of_case, script_of_case};
 use crate::options::Options;
 use crate::random::Random;
 use crate::report::{on_one_line, Report};
+use crate::sizes::{all_sizes, judge_sizes};
 use crate::slips::{finders, found};
 use crate::trials::{try_cases, Failure, Tally};
 use crate::vector_store::Slip;
@@ -47,6 +48,7 @@ pub fn run(options: &Options) -> ExitCode {
     let mut coverage = Coverage::default();
     let mut suite = Suite { options, bench: options.bench(), report: &mut report, coverage: &mut coverage };
     suite.kept();
+    suite.sizes();
     suite.scripts();
     suite.words();
     suite.damaged();
@@ -76,6 +78,20 @@ impl Suite<'_> {
             let said = tally.failures.first().map_or(String::new(), |failure| format!(": {}", failure.said));
             self.report.test(&format!("{}{said}", path.display()), tally.failures.is_empty());
         }
+    }
+
+    fn sizes(&mut self) {
+        let (mut passed, mut failed) = (0, 0);
+        for (sizes, length) in all_sizes() {
+            match judge_sizes(self.bench.procedures, sizes, length) {
+                Ok(()) => passed += 1,
+                Err(said) => {
+                    println!("FAILED: {said}");
+                    failed += 1;
+                }
+            }
+        }
+        self.report.group("sizes at the limits", passed, failed);
     }
 
     fn scripts(&mut self) {

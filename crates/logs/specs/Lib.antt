@@ -12,8 +12,7 @@ pub mod Witness
 pub mod OrderedLaws
 pub mod LogTestLaws
 pub mod LogLaws
-pub mod Walk
-pub mod WalkLaws
+pub mod FindingLaws
 pub mod SendingLaws
 pub mod InsertLaws
 pub mod Merge

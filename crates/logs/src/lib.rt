@@ -12,7 +12,6 @@ ghost use Rattle.logs.specs.Stored.{writeOf};
 pub mod adding;
 pub mod finding;
 pub mod sending;
-pub mod testing;
 
 // One write, as it stands in a place.
 pub struct Entry {
@@ -68,7 +67,7 @@ pub fn before(a: Entry, b: Entry) -> bool
 }
 
 // Are all four words the same?
-fn same(a: Entry, b: Entry) -> bool
+pub fn same(a: Entry, b: Entry) -> bool
     ensures { λ r. ⌜ r ≡ same (writeOf a) (writeOf b) ⌝ }
 {
     if a.origin != b.origin {

@@ -6,7 +6,6 @@ ghost use Rattle.tables.specs.Layout.{decode};
 ghost use Rattle.tables.specs.Shape.{shape, Laid};
 ghost use Rattle.tables.specs.Sound.{ruleC, ruleD, ruleE};
 ghost use Rattle.soundness.specs.Shares.{Counted, inOrder, follows, agreesWith};
-use logs::testing;
 use tables::Table;
 use tables::views;
 
@@ -32,7 +31,7 @@ fn in_order(t: &[u32], z: Table, i: usize) -> bool
 {
     let log = views::log(t, z, i);
     let count = views::count(t, z, i);
-    testing::ordered(log, count, z.n as u32, Table::ITEMS)
+    checks::ordered(log, count, z.n as u32, Table::ITEMS)
 }
 
 // Rule d, of every server.
@@ -72,7 +71,7 @@ fn component_follows(t: &[u32], z: Table, i: usize, j: usize) -> bool
 {
     let log = views::log(t, z, i);
     let count = views::count(t, z, i);
-    component(t, z, i, j) == testing::greatest_of(log, count, j as u32)
+    component(t, z, i, j) == checks::greatest_of(log, count, j as u32)
 }
 
 // Rule e, of every server.
@@ -115,7 +114,7 @@ fn log_agrees_with(t: &[u32], z: Table, i: usize, j: usize) -> bool
     let count = views::count(t, z, i);
     let home = views::log(t, z, j);
     let held = views::count(t, z, j);
-    testing::agrees(j as u32, known, log, count, home, held)
+    checks::agrees(j as u32, known, log, count, home, held)
 }
 
 // Component j of server i's vector.

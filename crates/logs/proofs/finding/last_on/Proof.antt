@@ -4,7 +4,7 @@ use Prim.Native.Nat.{_≤_}
 use Rattle.logs.specs.Log.{lastOn}
 use Rattle.logs.specs.Places.{entries}
 use Rattle.logs.specs.Stored.{lastOf}
-use Rattle.logs.specs.WalkLaws.{last-found, last-passed, last-none}
+use Rattle.logs.specs.FindingLaws.{last-found, last-passed, last-none}
 use mathlib.Core.Path.{_≡_, refl, sym}
 use Rattle.logs.proofs.finding.last_on.Statement.{statement}
 use Rattle.logs.proofs.finding.last_on.Tie as tie

@@ -1,9 +1,9 @@
--- `logs::testing::ordered` meets its contract. Assumes nothing.
+-- `checks::ordered` meets its contract. Assumes nothing.
 use borrow.Author.Needs.{needs}
-use Rattle.logs.specs.WalkLaws.{ordered-none, ordered-goes, ordered-not-1, ordered-not-ranged}
+use Rattle.checks.specs.WalkLaws.{ordered-none, ordered-goes, ordered-not-1, ordered-not-ranged}
 use mathlib.Core.Path.{sym, _∙_}
-use Rattle.logs.proofs.testing.ordered.Statement.{statement}
-use Rattle.logs.proofs.testing.ordered.Tie as tie
+use Rattle.checks.proofs.ordered.Statement.{statement}
+use Rattle.checks.proofs.ordered.Tie as tie
 
 returns : tie.Need-returns
 returns c = sym (ordered-none _ _ _ _ (c .if1 .taken))

@@ -1,13 +1,13 @@
--- `logs::testing::agrees` meets its contract. The loop's invariant: the logs agree if what is still to come of both does. Assumes nothing.
+-- `checks::agrees` meets its contract. The loop's invariant: the logs agree if what is still to come of both does. Assumes nothing.
 use borrow.Author.Needs.{needs}
 use Prim.Native.Nat.{_≤_, _-_, _+_}
 use Rattle.logs.specs.LogTests.{agrees}
 use Rattle.logs.specs.Places.{entries}
-use Rattle.logs.specs.Walk.{writesFrom}
-use Rattle.logs.specs.WalkLaws.{agree-start, agree-end, agree-past, agree-lacks, agree-same, agree-differs}
+use Rattle.checks.specs.Walk.{writesFrom}
+use Rattle.checks.specs.WalkLaws.{agree-start, agree-end, agree-past, agree-lacks, agree-same, agree-differs}
 use mathlib.Core.Path.{_≡_, sym, _∙_}
-use Rattle.logs.proofs.testing.agrees.Statement.{statement}
-use Rattle.logs.proofs.testing.agrees.Tie as tie
+use Rattle.checks.proofs.agrees.Statement.{statement}
+use Rattle.checks.proofs.agrees.Tie as tie
 
 abbrev Inv-loop : tie.InvT-loop
 Inv-loop origin c log count home held e₀ h₀ e h =

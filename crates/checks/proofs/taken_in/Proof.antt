@@ -1,9 +1,9 @@
--- `logs::testing::taken_in` meets its contract. Assumes nothing.
+-- `checks::taken_in` meets its contract. Assumes nothing.
 use Rattle.logs.specs.Stored.{writeOf}
-use Rattle.logs.specs.WalkLaws.{greatest-of-origin, greatest-of-other}
+use Rattle.checks.specs.WalkLaws.{greatest-of-origin, greatest-of-other}
 use native.Mathlib.Omega.{arith}
-use Rattle.logs.proofs.testing.taken_in.Statement.{statement}
-use Rattle.logs.proofs.testing.taken_in.Tie as tie
+use Rattle.checks.proofs.taken_in.Statement.{statement}
+use Rattle.checks.proofs.taken_in.Tie as tie
 
 returns : tie.Need-returns
 returns c = omega (arith, greatest-of-other _ (writeOf (c .before .before .args .w)) (c .if1 .taken))

@@ -1,13 +1,13 @@
--- `logs::testing::goes_on_from` meets its contract. The loop's invariant: the log goes on from the first write if it goes on from the last one passed. Assumes nothing.
+-- `checks::goes_on_from` meets its contract. The loop's invariant: the log goes on from the first write if it goes on from the last one passed. Assumes nothing.
 use borrow.Author.Needs.{needs}
 use Prim.Native.Nat.{_-_}
 use Rattle.logs.specs.LogTests.{goesOn}
 use Rattle.logs.specs.Stored.{writeOf}
-use Rattle.logs.specs.Walk.{writesFrom}
-use Rattle.logs.specs.WalkLaws.{goes-next, goes-fails, goes-end}
+use Rattle.checks.specs.Walk.{writesFrom}
+use Rattle.checks.specs.WalkLaws.{goes-next, goes-fails, goes-end}
 use mathlib.Core.Path.{_≡_, refl, sym, _∙_}
-use Rattle.logs.proofs.testing.goes_on_from.Statement.{statement}
-use Rattle.logs.proofs.testing.goes_on_from.Tie as tie
+use Rattle.checks.proofs.goes_on_from.Statement.{statement}
+use Rattle.checks.proofs.goes_on_from.Tie as tie
 
 abbrev Inv-loop : tie.InvT-loop
 Inv-loop log count n items last₀ e₀ last e =

@@ -1,11 +1,11 @@
--- `logs::testing::goes_on` meets its contract. Assumes nothing.
+-- `checks::goes_on` meets its contract. Assumes nothing.
 use borrow.Author.Needs.{needs}
-use Rattle.logs.specs.WalkLaws.{goes-one, goes-not-behind, goes-not-ranged}
+use Rattle.checks.specs.WalkLaws.{goes-one, goes-not-behind, goes-not-ranged}
 use Rattle.logs.specs.WriteLaws.{before-clock-le}
 use mathlib.Core.Path.{sym, _∙_}
 use native.Mathlib.Omega.{arith}
-use Rattle.logs.proofs.testing.goes_on.Statement.{statement}
-use Rattle.logs.proofs.testing.goes_on.Tie as tie
+use Rattle.checks.proofs.goes_on.Statement.{statement}
+use Rattle.checks.proofs.goes_on.Tie as tie
 
 in-range-requires : tie.Need-in-range-requires
 in-range-requires c κs = search needs

@@ -1,8 +1,8 @@
--- `logs::testing::in_range` meets its contract. Assumes nothing.
+-- `checks::in_range` meets its contract. Assumes nothing.
 use Rattle.logs.specs.LogTests.{inRange}
 use borrow.Author.Tests.{lt-ltb, le-ltb}
-use Rattle.logs.proofs.testing.in_range.Statement.{statement}
-use Rattle.logs.proofs.testing.in_range.Tie as tie
+use Rattle.checks.proofs.in_range.Statement.{statement}
+use Rattle.checks.proofs.in_range.Tie as tie
 
 returns : tie.Need-returns
 unfolding inRange

@@ -1,13 +1,13 @@
--- `logs::testing::greatest_of` meets its contract. The loop's invariant: the greatest clock is the greatest passed or among the writes from `e` on. Assumes nothing.
+-- `checks::greatest_of` meets its contract. The loop's invariant: the greatest clock is the greatest passed or among the writes from `e` on. Assumes nothing.
 use borrow.Author.Needs.{needs}
 use Prim.Native.Nat.{_≤_, _-_, max}
 use Rattle.logs.specs.LogTests.{greatestOf}
 use Rattle.logs.specs.Places.{entries}
-use Rattle.logs.specs.Walk.{writesFrom}
-use Rattle.logs.specs.WalkLaws.{greatest-start, greatest-next, greatest-end}
+use Rattle.checks.specs.Walk.{writesFrom}
+use Rattle.checks.specs.WalkLaws.{greatest-start, greatest-next, greatest-end}
 use mathlib.Core.Path.{_≡_, sym}
-use Rattle.logs.proofs.testing.greatest_of.Statement.{statement}
-use Rattle.logs.proofs.testing.greatest_of.Tie as tie
+use Rattle.checks.proofs.greatest_of.Statement.{statement}
+use Rattle.checks.proofs.greatest_of.Tie as tie
 
 abbrev Inv-loop : tie.InvT-loop
 Inv-loop log count origin most₀ e₀ most e =

@@ -1,12 +1,12 @@
--- `logs::testing::next_of` meets its contract. The loop's invariant: no write of the origin stands in the places passed. Assumes nothing.
+-- `checks::next_of` meets its contract. The loop's invariant: no write of the origin stands in the places passed. Assumes nothing.
 use borrow.Author.Needs.{needs}
 use Prim.Native.Nat.{_≤_, _-_}
-use Rattle.logs.specs.Walk.{originFrom}
-use Rattle.logs.specs.WalkLaws.{origin-skip}
+use Rattle.checks.specs.Walk.{originFrom}
+use Rattle.checks.specs.WalkLaws.{origin-skip}
 use mathlib.Core.Path.{_≡_, refl, sym, _∙_, ap}
 use native.Mathlib.Omega.{arith}
-use Rattle.logs.proofs.testing.next_of.Statement.{statement}
-use Rattle.logs.proofs.testing.next_of.Tie as tie
+use Rattle.checks.proofs.next_of.Statement.{statement}
+use Rattle.checks.proofs.next_of.Tie as tie
 
 abbrev Inv-loop : tie.InvT-loop
 Inv-loop log count e origin r₀ r = (e ≤ r) × (r ≤ count) × (originFrom origin count e log ≡ originFrom origin count r log)

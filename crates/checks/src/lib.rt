@@ -3,14 +3,11 @@ ghost use mathlib.Core.Path.{_≡_};
 ghost use mathlib.Core.List.{[], _∷_};
 ghost use Prim.Native.Nat.{max, _*_, _≤_};
 ghost use lib.ListN.{length};
 ghost use Rattle.logs.specs.LogTests.{inRange, goesOn, ordered, greatestOf, agrees};
 ghost use Rattle.logs.specs.Places.{entries};
 ghost use Rattle.logs.specs.Stored.{writeOf};
-ghost use Rattle.logs.specs.Walk.{writesFrom, NextOf};
-use crate::Entry;
-use crate::before;
-use crate::entry_at;
-use crate::same;
+ghost use Rattle.checks.specs.Walk.{writesFrom, NextOf};
+use logs::Entry;
 
 // Rule c: origins below n, items in range, in write order, the first clock 1 and no gap.
 pub fn ordered(log: &[u32], count: usize, n: u32, items: u32) -> bool
@@ -20,7 +17,7 @@ pub fn ordered(log: &[u32], count: usize, n: u32, items: u32) -> bool
     if count == 0 {
         return true;
     }
-    let first = entry_at(log, 0);
+    let first = logs::entry_at(log, 0);
     if in_range(first, n, items) {
         if first.clock == 1 {
             return goes_on_from(first, log, count, n, items);
@@ -37,7 +34,7 @@ fn goes_on_from(first: Entry, log: &[u32], count: usize, n: u32, items: u32) -> 
     let mut last = first;
     let mut e = 1;
     while e < count {
-        let next = entry_at(log, e);
+        let next = logs::entry_at(log, e);
         if goes_on(last, next, n, items) {
             last = next;
             e += 1;
@@ -54,7 +51,7 @@ fn goes_on(last: Entry, next: Entry, n: u32, items: u32) -> bool
     ensures { λ r. ⌜ r ≡ goesOn n items (writeOf last) (writeOf next ∷ []) ⌝ }
 {
     if in_range(next, n, items) {
-        if before(last, next) {
+        if logs::before(last, next) {
             return next.clock - last.clock <= 1;
         }
     }
@@ -79,7 +76,7 @@ pub fn greatest_of(log: &[u32], count: usize, origin: u32) -> u32
     let mut most = 0;
     let mut e = 0;
     while e < count {
-        let w = entry_at(log, e);
+        let w = logs::entry_at(log, e);
         most = taken_in(most, w, origin);
         e += 1;
     }
@@ -112,13 +109,13 @@ pub fn agrees(origin: u32, c: u32, log: &[u32], count: usize, home: &[u32], held
         if h == held {
             return e == count;
         }
-        let at_home = entry_at(home, h);
+        let at_home = logs::entry_at(home, h);
         h += 1;
         if at_home.clock <= c {
             if e == count {
                 return false;
             }
-            if same(entry_at(log, e), at_home) {
+            if logs::same(logs::entry_at(log, e), at_home) {
                 e += 1;
             } else {
                 return false;
@@ -134,7 +131,7 @@ fn next_of(log: &[u32], count: usize, e: usize, origin: u32) -> usize
 {
     let mut r = e;
     while r < count {
-        let w = entry_at(log, r);
+        let w = logs::entry_at(log, r);
         if w.origin == origin {
             return r;
         }

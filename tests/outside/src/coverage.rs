@@ -26,13 +26,18 @@ impl Coverage {
         }
     }
 
+    /// The same, each name behind the name of its group of cases.
+    pub fn of_group(self, group: &str) -> Coverage {
+        Coverage { seen: self.seen.into_iter().map(|(name, times)| (format!("{group}: {name}"), times)).collect() }
+    }
+
     pub fn times(&self, name: &str) -> u64 {
         self.seen.get(name).copied().unwrap_or(0)
     }
 
     /// The sizes of a script that the desk answered.
     pub fn note_script(&mut self, script: &Script) {
-        self.note("scripts");
+        self.note("all");
         self.note(&format!("servers {}", script.servers));
         self.note(&format!("places {}", script.places));
         self.note(&format!("slots {}", script.slots));
@@ -42,18 +47,18 @@ impl Coverage {
     /// What a damaged text turned out to be.
     pub fn note_reading(&mut self, reading: &Reading) {
         self.note(match reading {
-            Reading::Script(_) => "text: good all the same",
-            Reading::BadLine(1) => "text: bad line 1",
-            Reading::BadLine(_) => "text: bad line behind the first",
-            Reading::TooLong => "text: too long",
+            Reading::Script(_) => "good all the same",
+            Reading::BadLine(1) => "bad line 1",
+            Reading::BadLine(_) => "bad line behind the first",
+            Reading::TooLong => "too long",
         });
     }
 
     /// Which rule a damaged table breaks first.
     pub fn note_rule(&mut self, rule: Option<char>) {
         match rule {
-            Some(rule) => self.note(&format!("damaged: rule {rule} broken")),
-            None => self.note("damaged: sound all the same"),
+            Some(rule) => self.note(&format!("rule {rule} broken")),
+            None => self.note("sound all the same"),
         }
     }
 
@@ -114,40 +119,55 @@ impl Coverage {
     /// The numbers that tell how much was tried.
     pub fn summary(&self) -> String {
         let codes: Vec<String> = (0..8).map(|code| format!("{code}: {}", self.of_code(code))).collect();
-        format!(
-            "{} scripts, {} steps in them; answers of both stores by code: {}",
-            self.times("scripts"),
-            self.times("steps"),
-            codes.join(", ")
-        )
+        let scripts = self.times(&format!("{SCRIPTS}: all"));
+        let steps = self.times(&format!("{SCRIPTS}: steps"));
+        format!("{scripts} scripts, {steps} steps in them; answers by code: {}", codes.join(", "))
     }
 
     fn of_code(&self, code: u32) -> u64 {
-        (0..=6).map(|kind| self.times(&format!("kind {kind} code {code}"))).sum()
+        (1..=5).map(|kind| self.times(&format!("{SCRIPTS}: kind {kind} code {code}"))).sum()
     }
 
-    /// What a whole run must have come upon, and how often.
+    /// What a whole run must have come upon, by group, and how often.
     pub fn wanted() -> Vec<(String, u64)> {
-        let mut wanted = vec![("scripts".to_string(), 3_000), ("steps".to_string(), 200_000)];
-        let mut want = |name: String, times: u64| wanted.push((name, times));
-        (1..=16).for_each(|servers| want(format!("servers {servers}"), 100));
-        (1..=128).for_each(|places| want(format!("places {places}"), 5));
-        (1..=16).for_each(|slots| want(format!("slots {slots}"), 100));
-        (0..=15).for_each(|guarantees| want(format!("guarantees {guarantees}"), 500));
-        for (kind, codes) in [(1, &[0, 2, 3][..]), (2, &[0, 2, 3]), (3, &[0, 2, 3, 5, 6]), (4, &[0, 2, 3, 5, 6, 7])] {
-            codes.iter().for_each(|code| want(format!("kind {kind} code {code}"), 100));
-        }
-        [0, 2, 4].iter().for_each(|code| want(format!("kind 5 code {code}"), 100));
-        ['a', 'b', 'c', 'd', 'e', 'f'].iter().for_each(|rule| want(format!("damaged: rule {rule} broken"), 20));
-        OTHERS.iter().for_each(|name| want(name.to_string(), 50));
-        wanted
+        let scripts = wanted_of_scripts().into_iter().map(|(name, times)| (format!("{SCRIPTS}: {name}"), times));
+        let words = WORDS_WANTED.iter().map(|name| (format!("{WORDS}: {name}"), 100));
+        let of_texts = |group: &'static str, names: &'static [&str]| {
+            names.iter().map(move |name| (format!("{group}: {name}"), 10))
+        };
+        let byte_by_byte = of_texts(BYTE_BY_BYTE, &TEXTS_WANTED[..3]);
+        let at_random = of_texts(AT_RANDOM, &TEXTS_WANTED[..3]);
+        let at_the_limits = of_texts(AT_THE_LIMITS, &TEXTS_WANTED[1..]);
+        scripts.chain(words).chain(byte_by_byte).chain(at_random).chain(at_the_limits).collect()
     }
 }
 
-/// What else a whole run comes upon at least fifty times.
-const OTHERS: [&str; 22] = [
-    "kind 6 code 2",
-    "kind 0 code 2",
+/// The groups of cases.
+pub const SCRIPTS: &str = "scripts";
+pub const WORDS: &str = "schedules in words";
+pub const BYTE_BY_BYTE: &str = "texts damaged byte by byte";
+pub const AT_RANDOM: &str = "texts damaged at random";
+pub const AT_THE_LIMITS: &str = "texts at the limits";
+
+fn wanted_of_scripts() -> Vec<(String, u64)> {
+    let mut wanted = vec![("all".to_string(), 3_000), ("steps".to_string(), 200_000)];
+    let mut want = |name: String, times: u64| wanted.push((name, times));
+    (1..=16).for_each(|servers| want(format!("servers {servers}"), 100));
+    (1..=128).for_each(|places| want(format!("places {places}"), 5));
+    (1..=16).for_each(|slots| want(format!("slots {slots}"), 100));
+    (0..=15).for_each(|guarantees| want(format!("guarantees {guarantees}"), 500));
+    for (kind, codes) in KINDS_AND_CODES {
+        codes.iter().for_each(|code| want(format!("kind {kind} code {code}"), 100));
+    }
+    CHOICES_WANTED.iter().for_each(|name| want(name.to_string(), 100));
+    wanted
+}
+
+/// The codes that steps of each kind can answer on a sound table.
+const KINDS_AND_CODES: [(u32, &[u32]); 5] =
+    [(1, &[0, 2, 3]), (2, &[0, 2, 3]), (3, &[0, 2, 3, 5, 6]), (4, &[0, 2, 3, 5, 6, 7]), (5, &[0, 2, 4])];
+
+const CHOICES_WANTED: [&str; 14] = [
     "reach: none",
     "reach: one",
     "reach: several",
@@ -162,13 +182,22 @@ const OTHERS: [&str; 22] = [
     "exchange: to a full log",
     "exchange: nothing went",
     "exchange: several writes went",
-    "damaged: sound all the same",
-    "damaged: sound, and both stores went on",
-    "text: good all the same",
-    "text: bad line 1",
-    "text: bad line behind the first",
-    "text: too long",
 ];
+
+const WORDS_WANTED: [&str; 10] = [
+    "kind 0 code 2",
+    "kind 6 code 2",
+    "rule a broken",
+    "rule b broken",
+    "rule c broken",
+    "rule d broken",
+    "rule e broken",
+    "rule f broken",
+    "sound all the same",
+    "both stores went on from a changed table",
+];
+
+const TEXTS_WANTED: [&str; 4] = ["bad line 1", "good all the same", "bad line behind the first", "too long"];
 
 fn lacking(book: &Book, step: FiveWords) -> u64 {
     match (book.servers.get(step[1] as usize), book.servers.get(step[2] as usize)) {

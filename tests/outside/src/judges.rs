@@ -111,7 +111,7 @@ fn judge_damaged(procedures: Procedures, damaged: Vec<u32>, step: FiveWords, cov
             if table_of(&book) != damaged {
                 return Ok(());
             }
-            coverage.note("damaged: sound, and both stores went on");
+            coverage.note("both stores went on from a changed table");
             let wanted = book.step(step);
             same_answer(step, answer, wanted)?;
             same_words("a changed table after a step", &table, &table_of(&book))

@@ -1,7 +1,7 @@
 //! The whole run: kept cases, sizes at the limits, random scripts, schedules in words, damaged texts, planted slips, and what was come upon.
 
 use crate::case::{Bench, Case, Judge};
-use crate::coverage::Coverage;
+use crate::coverage::{Coverage, AT_RANDOM, AT_THE_LIMITS, BYTE_BY_BYTE, SCRIPTS, WORDS};
 use crate::damage::{byte_by_byte, damaged_text, text_at_the_limits};
 use crate::desk_text::{read, spell, Reading};
 use crate::kept::{keep, kept_cases};
@@ -96,7 +96,7 @@ impl Suite<'_> {
 
     fn scripts(&mut self) {
         let seed = self.options.seed;
-        self.try_group("scripts", self.options.scripts, &Judge::ALL, |number, coverage| {
+        self.try_group(SCRIPTS, self.options.scripts, &Judge::ALL, |number, coverage| {
             let script = script_of_case(&mut Group::Scripts.random(seed, number), number);
             coverage.note_script(&script);
             Case::Text(spell(&script).unwrap_or_default())
@@ -105,7 +105,7 @@ impl Suite<'_> {
 
     fn words(&mut self) {
         let seed = self.options.seed;
-        self.try_group("schedules in words", 2 * self.options.scripts, &Judge::ALL, |number, _| {
+        self.try_group(WORDS, 2 * self.options.scripts, &Judge::ALL, |number, _| {
             let schedule = schedule_of_case(&mut Group::Words.random(seed, number), number);
             Case::Words(schedule.spell().into_bytes())
         });
@@ -115,13 +115,13 @@ impl Suite<'_> {
         let seed = self.options.seed;
         let texts = byte_by_byte();
         let fewer = if self.options.scripts < WHOLE { 10 } else { 1 };
-        self.try_group("texts damaged byte by byte", texts.len() as u64 / fewer, &[Judge::Desk], |number, coverage| {
+        self.try_group(BYTE_BY_BYTE, texts.len() as u64 / fewer, &[Judge::Desk], |number, coverage| {
             noted(texts[(number * fewer) as usize].clone(), coverage)
         });
-        self.try_group("texts damaged at random", self.options.scripts / 4, &[Judge::Desk], |number, coverage| {
+        self.try_group(AT_RANDOM, self.options.scripts / 4, &[Judge::Desk], |number, coverage| {
             noted(damaged_text(&mut Group::Damaged.random(seed, number), number), coverage)
         });
-        self.try_group("texts at the limits", self.options.scripts / 16, &[Judge::Desk], |number, coverage| {
+        self.try_group(AT_THE_LIMITS, self.options.scripts / 16, &[Judge::Desk], |number, coverage| {
             noted(text_at_the_limits(&mut Group::Limits.random(seed, number)), coverage)
         });
     }
@@ -172,7 +172,7 @@ impl Suite<'_> {
             self.tell(name, failure);
         }
         self.report.group(&format!("{name} ({seconds:.1} s)"), tally.passed, tally.failures.len() as u64);
-        self.coverage.add_all(tally.coverage);
+        self.coverage.add_all(tally.coverage.of_group(name));
     }
 
     /// Says what failed, cuts it down and keeps it. A case that fails for a planted slip is not kept.

@@ -19,6 +19,7 @@ mod report;
 mod schedule;
 mod sizes;
 mod slips;
+mod stored_lines;
 mod suite;
 mod trials;
 mod vector_store;

@@ -1,5 +1,6 @@
 //! What is printed, and the count that closes a run.
 
+use crate::judges::Verdict;
 use std::process::ExitCode;
 
 /// How many tests passed and failed so far.
@@ -15,6 +16,13 @@ impl Report {
         println!("{name}: {passed} passed, {failed} failed");
         self.passed += passed;
         self.failed += failed;
+    }
+
+    /// Says what verdicts of a group found, and how it went.
+    pub fn verdicts(&mut self, name: &str, verdicts: Vec<Verdict>) {
+        let found: Vec<&String> = verdicts.iter().filter_map(|verdict| verdict.as_ref().err()).collect();
+        found.iter().for_each(|said| println!("FAILED: {said}"));
+        self.group(name, (verdicts.len() - found.len()) as u64, found.len() as u64);
     }
 
     /// Counts one test and says it.

@@ -11,6 +11,7 @@ use crate::random::Random;
 use crate::report::{on_one_line, Report};
 use crate::sizes::{all_sizes, judge_sizes};
 use crate::slips::{finders, found};
+use crate::stored_lines::judge_lines;
 use crate::trials::{try_cases, Failure, Tally};
 use crate::vector_store::Slip;
 use std::process::ExitCode;
@@ -20,6 +21,9 @@ use std::time::Instant;
 const WHOLE: u64 = 3_000;
 /// Of each group this many failing cases are cut down and kept; more would tell the same.
 const MOST_KEPT: usize = 3;
+
+/// What the program `cases` prints.
+const STORED_LINES: &str = "crates/cases/stdout";
 
 /// Each group of cases has numbers of its own, so that a group can grow without changing the others.
 #[derive(Clone, Copy)]
@@ -49,6 +53,7 @@ pub fn run(options: &Options) -> ExitCode {
     let mut suite = Suite { options, bench: options.bench(), report: &mut report, coverage: &mut coverage };
     suite.kept();
     suite.sizes();
+    suite.stored_lines();
     suite.scripts();
     suite.words();
     suite.damaged();
@@ -81,17 +86,15 @@ impl Suite<'_> {
     }
 
     fn sizes(&mut self) {
-        let (mut passed, mut failed) = (0, 0);
-        for (sizes, length) in all_sizes() {
-            match judge_sizes(self.bench.procedures, sizes, length) {
-                Ok(()) => passed += 1,
-                Err(said) => {
-                    println!("FAILED: {said}");
-                    failed += 1;
-                }
-            }
+        let verdicts = all_sizes().into_iter().map(|(sizes, length)| judge_sizes(self.bench.procedures, sizes, length));
+        self.report.verdicts("sizes at the limits", verdicts.collect());
+    }
+
+    fn stored_lines(&mut self) {
+        match std::fs::read_to_string(STORED_LINES) {
+            Ok(text) => self.report.verdicts("lines of the program cases", judge_lines(self.bench.procedures, &text)),
+            Err(error) => self.report.test(&format!("{STORED_LINES}: {error}"), false),
         }
-        self.report.group("sizes at the limits", passed, failed);
     }
 
     fn scripts(&mut self) {

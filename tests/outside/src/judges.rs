@@ -8,6 +8,7 @@ use crate::history::History;
 use crate::program::Program;
 use crate::schedule::{Event, Schedule};
 use crate::vector_store::{broken_rule, table_words, Procedures};
+use std::fmt::Arguments;
 
 /// What a judge says: nothing, or what differs.
 pub type Verdict = Result<(), String>;
@@ -16,7 +17,8 @@ pub type Verdict = Result<(), String>;
 pub fn by_the_book(procedures: Procedures, schedule: &Schedule, coverage: &mut Coverage) -> Verdict {
     let mut table = fresh_table(procedures, schedule)?;
     let mut book = Book::fresh(schedule.servers as usize, schedule.places as usize, schedule.slots as usize);
-    same_words("the fresh table", &table, &table_of(&book))?;
+    same_words(format_args!("the fresh table"), &table, &table_of(&book))?;
+    let mut answers = Vec::new();
     let mut damaged = None;
     for event in &schedule.events {
         match *event {
@@ -31,11 +33,12 @@ pub fn by_the_book(procedures: Procedures, schedule: &Schedule, coverage: &mut C
                 let wanted = coverage.watch(&mut book, step);
                 let answer = procedures.step(&mut table, step);
                 same_answer(step, answer, wanted)?;
-                same_words(&format!("the table after {step:?}"), &table, &table_of(&book))?;
+                same_words(format_args!("the table after {step:?}"), &table, &table_of(&book))?;
+                answers.extend(answer);
             }
         }
     }
-    runs_alike(procedures, schedule, &table)
+    runs_alike(procedures, schedule, &answers, &table)
 }
 
 /// The four guarantees hold at every moment of what the servers store.
@@ -101,7 +104,7 @@ fn judge_damaged(procedures: Procedures, damaged: Vec<u32>, step: FiveWords, cov
         (None, None) => Err(format!("a table breaks no rule, but shows no book: {damaged:?}")),
         (Some(_), None) => {
             same_answer(step, answer, [1, 0, 0, 0, 0])?;
-            same_words("an unsound table after a step", &table, &damaged)
+            same_words(format_args!("an unsound table after {step:?}"), &table, &damaged)
         }
         (None, Some(mut book)) => {
             if let Some(rule) = broken_rule(&table) {
@@ -114,26 +117,28 @@ fn judge_damaged(procedures: Procedures, damaged: Vec<u32>, step: FiveWords, cov
             coverage.note("both stores went on from a changed table");
             let wanted = book.step(step);
             same_answer(step, answer, wanted)?;
-            same_words("a changed table after a step", &table, &table_of(&book))
+            same_words(format_args!("a changed table after {step:?}"), &table, &table_of(&book))
         }
     }
 }
 
-/// A run equals its steps one after another, and refuses lengths that don't fit.
-fn runs_alike(procedures: Procedures, schedule: &Schedule, table_after: &[u32]) -> Verdict {
+/// A run gives the answers and leaves the table of its steps one after another, and refuses lengths that don't fit.
+fn runs_alike(procedures: Procedures, schedule: &Schedule, answers_wanted: &[u32], table_wanted: &[u32]) -> Verdict {
     let steps: Vec<u32> = schedule.steps().flatten().collect();
     let mut table = fresh_table(procedures, schedule)?;
-    let before = table.clone();
+    let fresh = table.clone();
     let mut answers = vec![7; steps.len() + 1];
-    if procedures.run(&mut table, &steps, &mut answers) != 8 || table != before || answers.iter().any(|word| *word != 7)
-    {
+    let code = procedures.run(&mut table, &steps, &mut answers);
+    if code != 8 || table != fresh || answers.iter().any(|word| *word != 7) {
         return Err("a run with an answer buffer that is too long is not refused".to_string());
     }
     answers.pop();
-    match procedures.run(&mut table, &steps, &mut answers) {
-        0 => same_words("the table after the run", &table, table_after),
-        code => Err(format!("the run answers {code}")),
+    let code = procedures.run(&mut table, &steps, &mut answers);
+    if code != 0 {
+        return Err(format!("the run answers {code}"));
     }
+    same_words(format_args!("the answers of the run"), &answers, answers_wanted)?;
+    same_words(format_args!("the table after the run"), &table, table_wanted)
 }
 
 fn same_answer(step: FiveWords, answer: FiveWords, wanted: FiveWords) -> Verdict {
@@ -143,7 +148,7 @@ fn same_answer(step: FiveWords, answer: FiveWords, wanted: FiveWords) -> Verdict
     Err(format!("{step:?} answers {answer:?}, not {wanted:?}"))
 }
 
-fn same_words(what: &str, words: &[u32], wanted: &[u32]) -> Verdict {
+fn same_words(what: Arguments, words: &[u32], wanted: &[u32]) -> Verdict {
     if words == wanted {
         return Ok(());
     }

@@ -6,6 +6,8 @@ use crate::schedule::{Event, Schedule};
 
 const MOST_BYTES: usize = 16_384;
 const MOST_STEPS: u32 = 512;
+/// How many arguments each kind has, by their numbers from 1.
+const ARGUMENTS: [u32; 5] = [2, 1, 3, 4, 3];
 
 /// What the steps of one schedule are like. Numbers are shares: of the five kinds, and out of a hundred.
 struct Mood {
@@ -246,6 +248,3 @@ impl Maker<'_> {
         }
     }
 }
-
-/// How many arguments each kind has, by their numbers from 1.
-const ARGUMENTS: [u32; 5] = [2, 1, 3, 4, 3];

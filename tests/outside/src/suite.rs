@@ -108,7 +108,7 @@ impl Suite<'_> {
 
     fn words(&mut self) {
         let seed = self.options.seed;
-        self.try_group(WORDS, 2 * self.options.scripts, &Judge::ALL, |number, _| {
+        self.try_group(WORDS, 2 * self.options.scripts, &[Judge::Book, Judge::Guarantees], |number, _| {
             let schedule = schedule_of_case(&mut Group::Words.random(seed, number), number);
             Case::Words(schedule.spell().into_bytes())
         });

@@ -1,5 +1,5 @@
 // The edges that 01 names, and the ends of each range.
-use crate::play;
+use telling::play;
 
 // L is 1: a second write at the same server finds the log full, and so does an exchange, which is accepted.
 const ONE_PLACE: [[u32; 5]; 6] = [

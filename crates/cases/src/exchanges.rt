@@ -1,5 +1,5 @@
 // Exchanges: which writes go over, how many, and where they go.
-use crate::play;
+use telling::play;
 
 // Server 0 has written twice and server 1 once, apart.
 const APART: [[u32; 5]; 4] = [

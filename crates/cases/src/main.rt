@@ -2,15 +2,9 @@
 // answered, and what became of the words that it was lent; `stdout` has the lines that 01 asks for.
 mod choosing;
 mod codes;
-mod damage;
 mod edges;
 mod exchanges;
-mod largest;
-mod making;
-mod play;
 mod rows;
-mod runs;
-mod show;
 
 fn main() {
     rows::all();
@@ -18,8 +12,4 @@ fn main() {
     choosing::all();
     exchanges::all();
     codes::all();
-    damage::all();
-    making::all();
-    runs::all();
-    largest::all();
 }

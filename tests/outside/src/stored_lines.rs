@@ -1,5 +1,5 @@
-//! The lines of `crates/cases/stdout`, to which `rt ci` holds what the program `cases` prints of the calls: making, steps and runs
-//! on sound tables and on damaged ones. Each line is said again by the vector procedures. What was asked is read off the line;
+//! The lines to which `rt ci` holds what the programs `cases`, `damaged` and `buffers` print of the calls: making, steps and runs on
+//! sound tables and on damaged ones. Each line is said again by the vector procedures. What was asked is read off the line;
 //! where the line doesn't tell, it stands in `asked`.
 
 mod asked;

@@ -22,8 +22,8 @@ const WHOLE: u64 = 3_000;
 /// Of each group this many failing cases are cut down and kept; more would tell the same.
 const MOST_KEPT: usize = 3;
 
-/// What the program `cases` prints.
-const STORED_LINES: &str = "crates/cases/stdout";
+/// What the programs `cases`, `damaged` and `buffers` print.
+const STORED_LINES: [&str; 3] = ["crates/cases/stdout", "crates/damaged/stdout", "crates/buffers/stdout"];
 
 /// Each group of cases has numbers of its own, so that a group can grow without changing the others.
 #[derive(Clone, Copy)]
@@ -91,10 +91,15 @@ impl Suite<'_> {
     }
 
     fn stored_lines(&mut self) {
-        match std::fs::read_to_string(STORED_LINES) {
-            Ok(text) => self.report.verdicts("lines of the program cases", judge_lines(self.bench.procedures, &text)),
-            Err(error) => self.report.test(&format!("{STORED_LINES}: {error}"), false),
+        let mut text = String::new();
+        for path in STORED_LINES {
+            match std::fs::read_to_string(path) {
+                Ok(lines) => text.push_str(&lines),
+                Err(error) => return self.report.test(&format!("{path}: {error}"), false),
+            }
         }
+        self.report
+            .verdicts("lines of the programs cases, damaged and buffers", judge_lines(self.bench.procedures, &text));
     }
 
     fn scripts(&mut self) {

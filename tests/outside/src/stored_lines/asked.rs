@@ -1,4 +1,4 @@
-//! What the lines of the program `cases` ask, where they do not tell it themselves.
+//! What the stored lines ask, where they do not tell it themselves.
 
 use crate::vector_store::FiveWords;
 

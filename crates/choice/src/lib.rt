@@ -10,7 +10,6 @@ ghost use Rattle.tables.specs.Shape.{shape};
 ghost use Rattle.rules.specs.Choice.{startOf, next};
 ghost use Rattle.choice.specs.Outcome.{Asking, sessionIn, current, readVerdict, writeVerdict, verdict, ofWorst, found};
 use tables::Table;
-use tables::views;
 
 // What a search for a server found.
 pub enum Choice {

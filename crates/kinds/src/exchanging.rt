@@ -15,7 +15,6 @@ ghost use Rattle.rules.specs.Rules.{received};
 ghost use Rattle.kinds.specs.Obeys.{answerOf, Held, Obeys};
 use crate::Answer;
 use tables::Table;
-use tables::views;
 
 // The smaller of what is asked for and what is free.
 fn smaller(most: u32, free: usize) -> usize
@@ -37,7 +36,7 @@ fn insert(t: &mut [u32], z: Table, i: usize, batch: &[u32], k: usize)
     let count = views::count(t, z, i);
     let a = z.log_at(i);
     let e = a + z.l * 4;
-    logs::adding::insert_all(&mut t[a..e], count, batch, k);
+    filing::adding::insert_all(&mut t[a..e], count, batch, k);
     let c = z.count_at(i);
     t[c] = (count + k) as u32;
 }
@@ -51,7 +50,7 @@ fn receive(t: &mut [u32], z: Table, i: usize, batch: &[u32], k: usize)
     insert(t, z, i, batch, k);
     let a = z.vector_at(i);
     let e = a + z.n;
-    logs::sending::follow(&mut t[a..e], batch, k);
+    filing::sending::follow(&mut t[a..e], batch, k);
 }
 
 // An exchange from one server to another of at most so many writes: 0; or 4 if the two are the same.
@@ -64,7 +63,7 @@ pub fn exchange(t: &mut [u32], z: Table, from: usize, to: usize, most: u32) -> A
     }
     let mut batch = [0u32; Table::PLACES * 4];
     let limit = smaller(most, z.l - views::count(t, z, to));
-    let k = logs::sending::lacking(
+    let k = filing::sending::lacking(
         views::log(t, z, from),
         views::count(t, z, from),
         views::vector(t, z, to),

@@ -6,7 +6,6 @@ ghost use Rattle.rules.specs.Step.{opens, closes};
 ghost use Rattle.kinds.specs.Obeys.{answerOf, Held, Obeys};
 use crate::Answer;
 use tables::Table;
-use tables::views;
 
 // Opens slot k with the chosen guarantees: 0, or 3 if the slot is open.
 pub fn open_slot(t: &mut [u32], z: Table, k: usize, guarantees: u32) -> Answer

@@ -12,9 +12,5 @@ pub mod Witness
 pub mod OrderedLaws
 pub mod LogTestLaws
 pub mod LogLaws
-pub mod FindingLaws
-pub mod SendingLaws
 pub mod InsertLaws
-pub mod Merge
-pub mod MergeLaws
 pub mod CongLaws

@@ -9,22 +9,12 @@ ghost use Rattle.logs.specs.Write.{before, same};
 ghost use Rattle.logs.specs.Places.{spelled, entry};
 ghost use Rattle.logs.specs.Stored.{writeOf};
 
-pub mod adding;
-pub mod finding;
-pub mod sending;
-
 // One write, as it stands in a place.
 pub struct Entry {
     pub origin: u32,
     pub clock: u32,
     pub item: u32,
     pub value: u32,
-}
-
-// What a search for the last write on an item found.
-pub enum Last {
-    On(Entry),
-    Nothing,
 }
 
 // The write in place e.

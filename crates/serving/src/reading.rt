@@ -4,7 +4,7 @@ ghost use mathlib.Core.Option.{some};
 ghost use Prim.Native.Nat.{_<_};
 ghost use Rattle.words.specs.Lists.{row, splice};
 ghost use Rattle.vectors.specs.Vector.{join};
-ghost use Rattle.logs.specs.Stored.{lastOf};
+ghost use Rattle.filing.specs.Found.{lastOf};
 ghost use Rattle.tables.specs.Layout.{decode, readAt};
 ghost use Rattle.tables.specs.Shape.{shape};
 ghost use Rattle.tables.specs.Size.{mostServers};
@@ -13,10 +13,9 @@ ghost use Rattle.rules.specs.Step.{reads};
 ghost use Rattle.rules.specs.Rules.{readAnswer, readFrom};
 ghost use Rattle.kinds.specs.Obeys.{answerOf, Held, Comes, Obeys};
 use choice::Choice;
+use filing::Last;
 use kinds::Answer;
-use logs::Last;
 use tables::Table;
-use tables::views;
 
 // The answer of server i where a search in its log found this.
 fn shown(i: usize, last: Last) -> Answer
@@ -59,7 +58,7 @@ fn read_at(t: &mut [u32], z: Table, k: usize, item: u32, i: usize) -> Answer
     requires { ⌜ Asking (shape z) (now t) k × (i < z .n) ⌝ }
     ensures { λ r. ⌜ Comes (shape z) (readFrom (decode (shape z) (now (t .entry))) k item (sessionIn (shape z) (now (t .entry)) k) (some i)) (answerOf r) (now (t .exit)) ⌝ }
 {
-    let last = logs::finding::last_on(views::log(t, z, i), views::count(t, z, i), item);
+    let last = filing::finding::last_on(views::log(t, z, i), views::count(t, z, i), item);
     let answer = shown(i, last);
     raise_read_vector(t, z, k, i);
     let a = z.slot_at(k) + 1;

@@ -16,7 +16,6 @@ use choice::Choice;
 use kinds::Answer;
 use logs::Entry;
 use tables::Table;
-use tables::views;
 
 // Adds a write at the end of server i's log, which has a free place, and raises its count.
 fn add(t: &mut [u32], z: Table, i: usize, w: Entry)
@@ -26,7 +25,7 @@ fn add(t: &mut [u32], z: Table, i: usize, w: Entry)
     let count = views::count(t, z, i);
     let a = z.log_at(i);
     let e = a + z.l * 4;
-    logs::adding::append(&mut t[a..e], count, w);
+    filing::adding::append(&mut t[a..e], count, w);
     let c = z.count_at(i);
     t[c] = count as u32 + 1;
 }

@@ -5,7 +5,6 @@ ghost use Rattle.tables.specs.Shape.{shape, Laid};
 ghost use Rattle.tables.specs.Sound.{ruleB};
 ghost use Rattle.soundness.specs.Shares.{counted};
 use tables::Table;
-use tables::views;
 
 // Rule b, of every server.
 pub fn all_counted(t: &[u32], z: Table) -> bool

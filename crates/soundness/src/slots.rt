@@ -10,7 +10,6 @@ ghost use Rattle.tables.specs.Sound.{ruleF};
 ghost use Rattle.soundness.specs.Shares.{slotHolds, openHolds, noneAbove};
 use crate::writes::component;
 use tables::Table;
-use tables::views;
 
 // Rule f, of every slot.
 pub fn all_hold(t: &[u32], z: Table) -> bool

@@ -7,7 +7,6 @@ ghost use Rattle.tables.specs.Shape.{shape, Laid};
 ghost use Rattle.tables.specs.Sound.{ruleC, ruleD, ruleE};
 ghost use Rattle.soundness.specs.Shares.{Counted, inOrder, follows, agreesWith};
 use tables::Table;
-use tables::views;
 
 // Rule c, of every log.
 pub fn all_in_order(t: &[u32], z: Table) -> bool

@@ -1,4 +1,3 @@
-pub mod Asked
-pub mod KindLaws
+pub mod Taken
 pub mod StepLaws
 pub mod TakenLaws

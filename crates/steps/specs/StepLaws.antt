@@ -17,7 +17,8 @@ use Rattle.rules.specs.Step.{Step, Answer, refused, answerWords}
 use Rattle.rules.specs.Calls.{written, StepPromise}
 use Rattle.rules.specs.CallLaws.{step-unsound, step-means}
 use Rattle.kinds.specs.Obeys.{Held}
-use Rattle.steps.specs.Asked.{Applied, Taken}
+use Rattle.applying.specs.Asked.{Applied}
+use Rattle.steps.specs.Taken.{Taken}
 
 module _ (t : List ℕ) {passed : Bool} (so : passed ≡ sound t) where
   -- A table that passes the check has its header,

@@ -16,7 +16,7 @@ use Rattle.rules.specs.Step.{Step, stepsOf, stepWords, Answer, answerWords}
 use Rattle.rules.specs.Calls.{step, onward, walk, lengthsFit, RunPromise}
 use Rattle.rules.specs.CallLaws.{walk-one, walk-append}
 use Rattle.rules.specs.RunLaws.{run-fits, run-misfits, walk-answers, length-answerWords, stepWords-stepsOf, length-stepWords}
-use Rattle.steps.specs.Asked.{stepAt, Taken}
+use Rattle.steps.specs.Taken.{stepAt, Taken}
 
 -- ---- the steps of a list of words
 

@@ -3,39 +3,12 @@
 ghost use mathlib.Core.Path.{_≡_};
 ghost use Prim.Native.Nat.{_+_, _*_, _≤_};
 ghost use lib.ListN.{length};
-ghost use Rattle.tables.specs.Shape.{shape};
 ghost use Rattle.rules.specs.Calls.{StepPromise, RunPromise};
-ghost use Rattle.kinds.specs.Obeys.{answerOf, Held};
-ghost use Rattle.steps.specs.Asked.{stepOf, stepAt, Applied, Taken};
+ghost use Rattle.kinds.specs.Obeys.{answerOf};
+ghost use Rattle.steps.specs.Taken.{stepAt, Taken};
+use applying::StepWords;
 use kinds::Answer;
 use tables::Table;
-
-mod asked;
-
-// 01, "Steps": a step's five words.
-pub struct StepWords {
-    pub kind: u32,
-    pub a: u32,
-    pub b: u32,
-    pub c: u32,
-    pub d: u32,
-}
-
-// One step on a table that is known to be sound, and is sound after it.
-pub fn apply(t: &mut [u32], z: Table, x: StepWords) -> Answer
-    requires { ⌜ Held (shape z) (now t) ⌝ }
-    ensures { λ r. ⌜ Applied (shape z) (now (t .entry)) (stepOf x) (answerOf r) (now (t .exit)) ⌝ }
-{
-    let kind = x.kind;
-    match kind {
-        1 => asked::opening(t, z, x),
-        2 => asked::closing(t, z, x),
-        3 => asked::reading(t, z, x),
-        4 => asked::writing(t, z, x),
-        5 => asked::exchanging(t, z, x),
-        _ => Answer::refusal(2),
-    }
-}
 
 // One step on any table. Answers its code, and beside 0 the server, origin, clock and value; a refused step leaves every word of
 // the table.
@@ -44,7 +17,7 @@ pub fn step(t: &mut [u32], kind: u32, a: u32, b: u32, c: u32, d: u32) -> Answer
 {
     if soundness::sound(t) {
         let z = Table::new(t[0], t[1], t[2]);
-        return apply(t, z, StepWords { kind, a, b, c, d });
+        return applying::apply(t, z, StepWords { kind, a, b, c, d });
     }
     Answer::refusal(1)
 }

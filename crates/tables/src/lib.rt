@@ -7,7 +7,6 @@ ghost use Rattle.tables.specs.Layout.{vectorAt, countAt, logAt, slotAt, 
 ghost use Rattle.tables.specs.Shape.{shape, Offset};
 
 pub mod making;
-pub mod views;
 
 // N servers, L places in each log and P session slots. The table's words are lent beside it.
 pub struct Table {

@@ -1,7 +1,7 @@
 -- `serving::reading::shown` meets its contract, whether a write was found or none. Assumes nothing.
 use mathlib.Core.Path.{sym, ap}
 use borrow.Author.Needs.{needs}
-use Rattle.logs.specs.Stored.{lastOf}
+use Rattle.filing.specs.Found.{lastOf}
 use Rattle.rules.specs.Rules.{readAnswer}
 use Rattle.serving.proofs.reading.shown.Statement.{statement}
 use Rattle.serving.proofs.reading.shown.Tie as tie

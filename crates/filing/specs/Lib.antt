@@ -1,0 +1,5 @@
+pub mod Found
+pub mod FindingLaws
+pub mod SendingLaws
+pub mod Merge
+pub mod MergeLaws

@@ -3,12 +3,12 @@
 ghost use mathlib.Core.Path.{_≡_};
 ghost use Rattle.tables.specs.Shape.{shape, Laid};
 ghost use Rattle.tables.specs.Sound.{sound};
-ghost use Rattle.soundness.specs.Shares.{Counted, laidOut, rulesFromB, rulesFromC};
+ghost use Rattle.agreement.specs.Shares.{Counted};
+ghost use Rattle.soundness.specs.Shares.{laidOut, rulesFromB, rulesFromC};
 use tables::Table;
 
 mod counts;
 mod slots;
-mod writes;
 
 // Is the table sound: has it its length and header, and do rules b to f hold of its words?
 pub fn sound(t: &[u32]) -> bool
@@ -53,13 +53,13 @@ fn keeps_rules_from_c(t: &[u32], z: Table) -> bool
     requires { ⌜ Counted (shape z) (now t) ⌝ }
     ensures { λ r. ⌜ r ≡ rulesFromC (shape z) (now (t .entry)) ⌝ }
 {
-    if !writes::all_in_order(t, z) {
+    if !agreement::all_in_order(t, z) {
         return false;
     }
-    if !writes::all_follow(t, z) {
+    if !agreement::all_follow(t, z) {
         return false;
     }
-    if !writes::all_agree(t, z) {
+    if !agreement::all_agree(t, z) {
         return false;
     }
     slots::all_hold(t, z)

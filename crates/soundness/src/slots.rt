@@ -8,7 +8,7 @@ ghost use Rattle.tables.specs.Layout.{decode};
 ghost use Rattle.tables.specs.Shape.{shape, Laid};
 ghost use Rattle.tables.specs.Sound.{ruleF};
 ghost use Rattle.soundness.specs.Shares.{slotHolds, openHolds, noneAbove};
-use crate::writes::component;
+use agreement::component;
 use tables::Table;
 
 // Rule f, of every slot.

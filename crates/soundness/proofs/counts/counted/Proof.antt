@@ -3,7 +3,8 @@ use borrow.Author.Needs.{needs}
 use lib.ListN.{length}
 use mathlib.Core.Path.{ap}
 use native.Mathlib.Omega.{arith}
-use Rattle.soundness.specs.ReadLaws.{log-length, counted-over, counted-within}
+use Rattle.agreement.specs.ReadLaws.{log-length}
+use Rattle.soundness.specs.ReadLaws.{counted-over, counted-within}
 use Rattle.soundness.proofs.counts.counted.Statement.{statement}
 use Rattle.soundness.proofs.counts.counted.Tie as tie
 

@@ -1,13 +1,13 @@
--- `writes::component` meets its contract: a word of the vector is that component. Assumes nothing.
+-- `agreement::component` meets its contract: a word of the vector is that component. Assumes nothing.
 use borrow.Author.Needs.{needs}
 use Prim.Native.Nat.{ℕ}
-use Rattle.soundness.specs.ReadLaws.{vector-length, component-read}
+use Rattle.agreement.specs.ReadLaws.{vector-length, component-read}
 use lib.ListN.{length, getD}
 use mathlib.Core.List.{List}
 use mathlib.Core.Path.{ap, _∙_}
 use native.Mathlib.Omega.{arith}
-use Rattle.soundness.proofs.writes.component.Statement.{statement}
-use Rattle.soundness.proofs.writes.component.Tie as tie
+use Rattle.agreement.proofs.component.Statement.{statement}
+use Rattle.agreement.proofs.component.Tie as tie
 
 vector-requires : tie.Need-vector-requires
 vector-requires c κs = search needs

@@ -1,12 +1,12 @@
--- `writes::component_follows` meets its contract: both sides are what the table means. Assumes nothing.
+-- `agreement::component_follows` meets its contract: both sides are what the table means. Assumes nothing.
 use borrow.Author.Needs.{needs}
 use Rattle.logs.specs.LogTests.{greatestOf}
-use Rattle.soundness.specs.ReadLaws.{log-read, count-fits}
-use Rattle.soundness.specs.Shares.{follows}
+use Rattle.agreement.specs.ReadLaws.{log-read, count-fits}
+use Rattle.agreement.specs.Shares.{follows}
 use lib.Dec.{eqb}
 use mathlib.Core.Path.{ap, ap₂, _∙_}
-use Rattle.soundness.proofs.writes.component_follows.Statement.{statement}
-use Rattle.soundness.proofs.writes.component_follows.Tie as tie
+use Rattle.agreement.proofs.component_follows.Statement.{statement}
+use Rattle.agreement.proofs.component_follows.Tie as tie
 
 log-requires : tie.Need-log-requires
 log-requires c κs = search needs

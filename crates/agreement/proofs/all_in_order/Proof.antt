@@ -1,15 +1,15 @@
--- `writes::all_in_order` meets its contract. The loop's invariant: every log passed keeps rule c. Assumes nothing.
+-- `agreement::all_in_order` meets its contract. The loop's invariant: every log passed keeps rule c. Assumes nothing.
 use borrow.Author.Needs.{needs}
 use Prim.Native.Nat.{_≤_, _-_}
-use Rattle.soundness.specs.Shares.{inOrder}
+use Rattle.agreement.specs.Shares.{inOrder}
 use Rattle.tables.specs.Shape.{shape}
 use Rattle.tables.specs.Sound.{ruleC}
 use Rattle.words.specs.CheckLaws.{passed, failed, all-none, all-more, all-fails, all-done}
 use Rattle.words.specs.Tests.{all}
 use mathlib.Core.Bool.{true}
 use mathlib.Core.Path.{_≡_}
-use Rattle.soundness.proofs.writes.all_in_order.Statement.{statement}
-use Rattle.soundness.proofs.writes.all_in_order.Tie as tie
+use Rattle.agreement.proofs.all_in_order.Statement.{statement}
+use Rattle.agreement.proofs.all_in_order.Tie as tie
 
 abbrev Inv-loop : tie.InvT-loop
 Inv-loop t z i₀ i = (i ≤ z .n) × (all i (inOrder (shape z) t) ≡ true)

@@ -1,11 +1,11 @@
--- `writes::in_order` meets its contract: the log's places hold the log that the table means. Assumes nothing.
+-- `agreement::in_order` meets its contract: the log's places hold the log that the table means. Assumes nothing.
 use borrow.Author.Needs.{needs}
 use Rattle.logs.specs.LogTests.{ordered}
-use Rattle.soundness.specs.ReadLaws.{log-read, count-fits}
-use Rattle.soundness.specs.Shares.{inOrder}
+use Rattle.agreement.specs.ReadLaws.{log-read, count-fits}
+use Rattle.agreement.specs.Shares.{inOrder}
 use mathlib.Core.Path.{ap, _∙_}
-use Rattle.soundness.proofs.writes.in_order.Statement.{statement}
-use Rattle.soundness.proofs.writes.in_order.Tie as tie
+use Rattle.agreement.proofs.in_order.Statement.{statement}
+use Rattle.agreement.proofs.in_order.Tie as tie
 
 log-requires : tie.Need-log-requires
 log-requires c κs = search needs

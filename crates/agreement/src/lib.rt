@@ -5,7 +5,7 @@ ghost use Rattle.words.specs.Tests.{all};
 ghost use Rattle.tables.specs.Layout.{decode};
 ghost use Rattle.tables.specs.Shape.{shape, Laid};
 ghost use Rattle.tables.specs.Sound.{ruleC, ruleD, ruleE};
-ghost use Rattle.soundness.specs.Shares.{Counted, inOrder, follows, agreesWith};
+ghost use Rattle.agreement.specs.Shares.{Counted, inOrder, follows, agreesWith};
 use tables::Table;
 
 // Rule c, of every log.

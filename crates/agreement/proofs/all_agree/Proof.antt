@@ -1,18 +1,18 @@
--- `writes::all_follow` meets its contract. The loop's invariant: every vector passed keeps rule d. Assumes nothing.
+-- `agreement::all_agree` meets its contract. The loop's invariant: every log passed keeps rule e. Assumes nothing.
 use borrow.Author.Needs.{needs}
 use Prim.Native.Nat.{_≤_, _-_}
-use Rattle.soundness.specs.Shares.{follows}
+use Rattle.agreement.specs.Shares.{agreesWith}
 use Rattle.tables.specs.Shape.{shape}
-use Rattle.tables.specs.Sound.{ruleD}
+use Rattle.tables.specs.Sound.{ruleE}
 use Rattle.words.specs.CheckLaws.{passed, failed, all-none, all-more, all-fails, all-done}
 use Rattle.words.specs.Tests.{all}
 use mathlib.Core.Bool.{true}
 use mathlib.Core.Path.{_≡_}
-use Rattle.soundness.proofs.writes.all_follow.Statement.{statement}
-use Rattle.soundness.proofs.writes.all_follow.Tie as tie
+use Rattle.agreement.proofs.all_agree.Statement.{statement}
+use Rattle.agreement.proofs.all_agree.Tie as tie
 
 abbrev Inv-loop : tie.InvT-loop
-Inv-loop t z i₀ i = (i ≤ z .n) × (all i (λ k. all (z .n) (follows (shape z) t k)) ≡ true)
+Inv-loop t z i₀ i = (i ≤ z .n) × (all i (λ k. all (z .n) (agreesWith (shape z) t k)) ≡ true)
 
 abbrev μ-loop : tie.MeasureT-loop
 μ-loop t z i₀ i = z .n - i
@@ -20,12 +20,12 @@ abbrev μ-loop : tie.MeasureT-loop
 loop-holds : tie.Need-loop-holds Inv-loop μ-loop
 loop-holds c = (search needs, all-none _)
 
-vector-follows-requires : tie.Need-vector-follows-requires Inv-loop μ-loop
-vector-follows-requires c κs = search needs
+log-agrees-requires : tie.Need-log-agrees-requires Inv-loop μ-loop
+log-agrees-requires c κs = search needs
 
 returns : tie.Need-returns Inv-loop μ-loop
-unfolding ruleD follows
-returns c = all-fails _ _ (c .before .before .before .before .loop .i) (search needs) (failed (c .before .vector-follows .ensures) (c .if2 .taken))
+unfolding ruleE agreesWith
+returns c = all-fails _ _ (c .before .before .before .before .loop .i) (search needs) (failed (c .before .log-agrees .ensures) (c .if2 .taken))
 
 add-i : tie.Need-add-i Inv-loop μ-loop
 add-i c = search needs
@@ -34,20 +34,20 @@ loop-less : tie.Need-loop-less Inv-loop μ-loop
 loop-less c = search needs
 
 loop-again : tie.Need-loop-again Inv-loop μ-loop
-loop-again c = (search needs, all-more _ _ (c .before .before .before .before .loop .inv .1) (passed (c .before .vector-follows .ensures) (c .if2 .left)))
+loop-again c = (search needs, all-more _ _ (c .before .before .before .before .loop .inv .1) (passed (c .before .log-agrees .ensures) (c .if2 .left)))
 
 returns-2 : tie.Need-returns-2 Inv-loop μ-loop
-unfolding ruleD follows
+unfolding ruleE agreesWith
 returns-2 c = all-done _ _ (c .before .before .loop .i) (search needs) (search needs) (c .before .before .loop .inv .1)
 
-pub all-follow-spec : {M : Type 1} → statement M
-all-follow-spec =
+pub all-agree-spec : {M : Type 1} → statement M
+all-agree-spec =
     tie.close
     (tie.spec
     Inv-loop
     μ-loop
     loop-holds
-    vector-follows-requires
+    log-agrees-requires
     returns
     add-i
     loop-less

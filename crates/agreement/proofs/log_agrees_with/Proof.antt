@@ -1,9 +1,9 @@
--- `writes::log_agrees_with` meets its contract: both logs and the component are what the table means. Assumes nothing.
+-- `agreement::log_agrees_with` meets its contract: both logs and the component are what the table means. Assumes nothing.
 use borrow.Author.Needs.{needs}
-use Rattle.soundness.specs.ReadLaws.{log-read, count-fits, agrees-of}
-use Rattle.soundness.specs.Shares.{agreesWith}
-use Rattle.soundness.proofs.writes.log_agrees_with.Statement.{statement}
-use Rattle.soundness.proofs.writes.log_agrees_with.Tie as tie
+use Rattle.agreement.specs.ReadLaws.{log-read, count-fits, agrees-of}
+use Rattle.agreement.specs.Shares.{agreesWith}
+use Rattle.agreement.proofs.log_agrees_with.Statement.{statement}
+use Rattle.agreement.proofs.log_agrees_with.Tie as tie
 
 component-requires : tie.Need-component-requires
 component-requires c κs = search needs

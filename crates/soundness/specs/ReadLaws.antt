@@ -36,23 +36,24 @@ module _ {z : Size} {t : List ℕ} (laid : Laid z t) where
 
 -- ---- rule b
 
-module _ (z : Size) (t : List ℕ) {count : ℕ} {log : List ℕ} (i : ℕ) (h : i < z .n) (e : count ≡ getD t (countAt z i) 0) (g : log ≡ logPart z t i) where
-  -- Rule b, where the count is at most L.
-  pub counted-within : {r : Bool} → count ≤ z .l → r ≡ zeros (take (length log - count * 4) (drop (count * 4) log)) → r ≡ counted z t i
-  unfolding counted
-  counted-within q x =
-      and-goes (leb (getD t (countAt z i) 0) (z .l)) _ (leb-passes e refl q)
-      (x ∙ (ap zeros (take-all (length log - count * 4) (drop (count * 4) log) (omega (arith, length-drop (count * 4) log)))
-      ∙ ap₂ (λ (c : ℕ) (ws : List ℕ). zeros (drop (c * width) ws)) e g))
+-- Where the count is at most L.
+pub counted-within : (z : Size) (t : List ℕ) {count : ℕ} {log : List ℕ} (i : ℕ) {r : Bool} → count ≡ getD t (countAt z i) 0 → log ≡ logPart z t i → count ≤ z .l
+    → r ≡ zeros (take (length log - count * 4) (drop (count * 4) log))
+    → r ≡ counted z t i
+unfolding counted
+counted-within z t {count} {log} i e g q x =
+    and-goes (leb (getD t (countAt z i) 0) (z .l)) _ (leb-passes e refl q)
+    (x ∙ (ap zeros (take-all (length log - count * 4) (drop (count * 4) log) (omega (arith, length-drop (count * 4) log)))
+    ∙ ap₂ (λ (c : ℕ) (ws : List ℕ). zeros (drop (c * width) ws)) e g))
 
--- Rule b, where it is more.
+-- Where it is more.
 pub counted-over : (z : Size) (t : List ℕ) {count : ℕ} (i : ℕ) → count ≡ getD t (countAt z i) 0 → z .l < count → false ≡ counted z t i
 unfolding counted
 counted-over z t i e q = and-fails (leb (getD t (countAt z i) 0) (z .l)) _ (leb-fails e refl q)
 
 -- ---- rule f
 
--- Rule f of a vector lent as v.
+-- Of a vector lent as v.
 pub noneAbove-of : (z : Size) (t : List ℕ) {v ws : List ℕ} {r : Bool} → r ≡ noneAbove z t (vectorOf v) → v ≡ ws → r ≡ noneAbove z t (vectorOf ws)
 noneAbove-of z t e g = e ∙ ap (λ (v : List ℕ). noneAbove z t (vectorOf v)) g
 

@@ -1,4 +1,6 @@
 // What is printed of a case: names and numbers, and what became of the words that a call was lent.
+ghost use mathlib.Core.Bool.{true, false};
+ghost use mathlib.Core.Path.{_≡_};
 ghost use Prim.Native.Nat.{_+_, _≤_};
 ghost use lib.ListN.{length};
 use kinds::Answer;
@@ -50,8 +52,11 @@ pub fn answer(r: Answer) {
     number(r.value);
 }
 
-// The same words?
-fn same(a: &[u32], b: &[u32]) -> bool {
+// The same words? Whether a table was altered is told by this, so it is promised.
+fn same(a: &[u32], b: &[u32]) -> bool
+    ensures yes { λ r. ⌜ (r ≡ true → now (a .entry) ≡ now (b .entry)) ⌝ }
+    ensures no { λ r. ⌜ (r ≡ false → now (a .entry) ≡ now (b .entry) → ⊥) ⌝ }
+{
     if a.len() != b.len() {
         return false;
     }

@@ -38,7 +38,7 @@ all-zero-requires : tie.Need-all-zero-requires
 all-zero-requires c κs = search needs
 
 returns-2 : tie.Need-returns-2
-returns-2 c = counted-within _ _ _ (c .before .before .before .before .before .before .before .pre .1) (c .before .before .before .before .before .count .ensures) (c .before .before .log .ensures) (search needs) (c .all-zero .ensures)
+returns-2 c = counted-within _ _ _ (c .before .before .before .before .before .count .ensures) (c .before .before .log .ensures) (search needs) (c .all-zero .ensures)
 
 pub counted-spec : {M : Type 1} → statement M
 counted-spec =

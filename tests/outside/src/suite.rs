@@ -1,4 +1,5 @@
-//! The whole run: kept cases, sizes at the limits, random scripts, schedules in words, damaged texts, planted slips, and what was come upon.
+//! The whole run: kept cases, sizes at the limits, stored lines, random scripts, schedules in words, damaged texts, planted slips, and what was
+//! come upon.
 
 use crate::case::{Bench, Case, Judge};
 use crate::coverage::{Coverage, AT_RANDOM, AT_THE_LIMITS, BYTE_BY_BYTE, SCRIPTS, WORDS};

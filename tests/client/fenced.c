@@ -42,6 +42,7 @@ struct fenced fenced_room(size_t most) {
     }
     struct fenced fenced = {(uint32_t *)(void *)(pages + page), bytes / sizeof(uint32_t), NULL, 0, NOWHERE};
     fenced_protect(&fenced, false);
+    fenced_lend(&fenced, NOWHERE, 0);
     return fenced;
 }
 

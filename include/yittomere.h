@@ -10,19 +10,21 @@
  *
  * The words are all there is. The library allocates nothing, keeps no pointer and has no state of its own: a table may be
  * copied, stored and loaded as its words, and threads may work on different tables at once. A call uses about 17 kB of stack.
+ * Each step checks the whole table first, so its time grows with the table's words and with the number of servers.
  *
  * This holds of all three calls:
  *
  *  - They take any numbers and any words, check everything themselves, and return. A damaged table is refused; no check is left
  *    to you.
- *  - They return a code: YITTOMERE_DONE, or one that says why not. Of several faults the smallest code is given, except that
- *    yittomere_step and yittomere_run look at the lengths of their buffers first. What a refused step, or a call that returns
- *    YITTOMERE_WRONG_LENGTH, leaves in the table is every word as it was.
- *  - A buffer is a pointer and a count of words, which must be memory of yours: the library can't see how much there really is.
- *  - With a count of 0 the pointer may be null, or any other. It is an empty buffer, and a length like any other: no table, but
- *    a fitting list of no steps. A null pointer with a greater count is not memory of yours.
- *  - The buffers of one call must not overlap: no word may belong to two of them. Nothing is promised of a call whose buffers
- *    do, since what it is proved to do is proved of separate ones. They may touch, as parts of one array. An empty buffer
+ *  - They return a code: YITTOMERE_DONE, or one that says why not. A call that returns any other code than YITTOMERE_DONE leaves
+ *    every word of the table as it was, and so does a step of a run that is refused. Of several faults the smallest code is
+ *    given, except that yittomere_step and yittomere_run look at the lengths of the buffers for answers first.
+ *  - A buffer is a pointer and its length: how many words of 32 bits there are, not bytes. They must be memory of yours; the
+ *    library can't see how much there really is.
+ *  - With length 0 the pointer may be null, or any other. This is an empty buffer, whose length is judged like any other length:
+ *    it is no table, but it can be a list of no steps. A null pointer with another length is not memory of yours.
+ *  - The buffers of one call must not overlap: no word may belong to two of them. Of a call whose buffers overlap nothing is
+ *    promised, since what the calls do is proved of separate buffers. They may touch, as parts of one array. An empty buffer
  *    overlaps none.
  *
  * Build with:  rt staticlib yittomere
@@ -137,8 +139,8 @@ uint32_t yittomere_make(uint32_t *table, size_t table_words, uint32_t servers, u
  *
  * Returns the step's code, the same as answer[YITTOMERE_ANSWER_CODE]: YITTOMERE_DONE, or the smallest that holds of
  * YITTOMERE_UNSOUND to YITTOMERE_FULL. With a wrong `answer_words` it returns YITTOMERE_WRONG_LENGTH, before anything else is
- * looked at: no step is taken, and no word of `table` or `answer` is altered. That no table of any kind can lead to this code
- * tells the two apart.
+ * looked at: no step is taken, and no word of `table` or `answer` is altered. No step has that code, so the two can't be taken
+ * for each other.
  */
 uint32_t yittomere_step(uint32_t *table, size_t table_words, uint32_t kind, uint32_t a, uint32_t b, uint32_t c, uint32_t d,
                         uint32_t *answer, size_t answer_words);

@@ -35,6 +35,13 @@ impl Coverage {
         self.seen.get(name).copied().unwrap_or(0)
     }
 
+    /// How often each thing was seen, without the sizes.
+    pub fn listed(&self) -> String {
+        let sizes = ["servers", "places", "slots"];
+        let told = self.seen.iter().filter(|(name, _)| !sizes.iter().any(|size| name.starts_with(size)));
+        told.map(|(name, times)| format!("{name}: {times}")).collect::<Vec<_>>().join(", ")
+    }
+
     /// The sizes of a script that the desk answered.
     pub fn note_script(&mut self, script: &Script) {
         self.note("all");
@@ -164,7 +171,7 @@ fn wanted_of_scripts() -> Vec<(String, u64)> {
 }
 
 /// The codes that steps of each kind can answer on a sound table.
-const KINDS_AND_CODES: [(u32, &[u32]); 5] =
+pub const KINDS_AND_CODES: [(u32, &[u32]); 5] =
     [(1, &[0, 2, 3]), (2, &[0, 2, 3]), (3, &[0, 2, 3, 5, 6]), (4, &[0, 2, 3, 5, 6, 7]), (5, &[0, 2, 4])];
 
 const CHOICES_WANTED: [&str; 14] = [

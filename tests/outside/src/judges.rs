@@ -148,7 +148,8 @@ fn same_answer(step: FiveWords, answer: FiveWords, wanted: FiveWords) -> Verdict
     Err(format!("{step:?} answers {answer:?}, not {wanted:?}"))
 }
 
-fn same_words(what: Arguments, words: &[u32], wanted: &[u32]) -> Verdict {
+/// The same words; Err says which differs first.
+pub fn same_words(what: Arguments, words: &[u32], wanted: &[u32]) -> Verdict {
     if words == wanted {
         return Ok(());
     }

@@ -4,6 +4,7 @@
 
 mod book;
 mod case;
+mod client;
 mod coverage;
 mod cutting;
 mod damage;
@@ -44,6 +45,7 @@ fn main() -> ExitCode {
         Order::Reply => reply(options.bench().procedures),
         Order::Try(file) => try_file(Path::new(file), &options.bench()),
         Order::Suite => suite::run(&options),
+        Order::Client => client::run(&options),
     }
 }
 

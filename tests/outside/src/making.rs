@@ -111,7 +111,7 @@ fn change(random: &mut Random, servers: u32, places: u32, slots: u32) -> Event {
 }
 
 /// The step with some word replaced, or of no kind that there is.
-fn disturbed(random: &mut Random, mut step: FiveWords) -> FiveWords {
+pub fn disturbed(random: &mut Random, mut step: FiveWords) -> FiveWords {
     if random.chance(30) {
         step[0] = random.one_of(&[0, 6, 7, u32::MAX]);
     } else {
@@ -121,7 +121,7 @@ fn disturbed(random: &mut Random, mut step: FiveWords) -> FiveWords {
 }
 
 /// Any number, those at the edges often.
-fn number(random: &mut Random) -> u32 {
+pub fn number(random: &mut Random) -> u32 {
     match random.below(4) {
         0 => random.below(20),
         1 => random.one_of(&[15, 16, 17, 255, 256, 65_535, 65_536, u32::MAX - 1, u32::MAX]),

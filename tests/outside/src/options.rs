@@ -7,19 +7,25 @@ use std::path::PathBuf;
 
 pub const USAGE: &str = "\
 usage: outside [OPTIONS] [-- PROGRAM WORDS..]            tries everything; the last line is 'N passed, M failed'
+       outside [OPTIONS] client [-- BRIDGE WORDS..]      tries the C calls, which the bridge makes; the last line is the same
        outside [OPTIONS] try FILE [-- PROGRAM WORDS..]   says what each judge says of one case (.txt or .words)
        outside [OPTIONS] reply                           answers a text on standard input as the desk does
 PROGRAM, run with the words behind it, is held to the rules; the usual one is target/bin/desk
+BRIDGE is the program of tests/client/bridge.c; the usual one is target/client/bridge
 options: --kept FOLDER    the cases that are tried in every run, and where a failing one goes (tests/regressions)
          --seed NUMBER    of the random cases
          --scripts NUMBER of random scripts; what a whole run must come upon is asked of 3000 and more
          --slip NAME      plants a slip of 01 in the vector procedures: last-used-trusted, clock-of-own-writes,
                           newest-first, read-vector-only-under-mr or behind-for-a-full-log";
 
+/// A whole run has this many scripts at least; of fewer nothing is asked that they come upon.
+const WHOLE: u64 = 3_000;
+
 /// What is to be done.
 #[derive(Clone, Debug, PartialEq, Eq)]
 pub enum Order {
     Suite,
+    Client,
     Try(String),
     Reply,
 }
@@ -54,6 +60,10 @@ impl Options {
                 "--seed" => options.seed = number(&value()?)?,
                 "--scripts" => options.scripts = number(&value()?)?,
                 "--slip" => options.slip = Some(slip(&value()?)?),
+                "client" => {
+                    options.order = Order::Client;
+                    options.program = Program { file: "target/client/bridge".to_string(), words: Vec::new() };
+                }
                 "try" => options.order = Order::Try(value()?),
                 "reply" => options.order = Order::Reply,
                 "--" => {
@@ -64,6 +74,16 @@ impl Options {
             }
         }
         Ok(options)
+    }
+
+    /// Whether it is asked what the run comes upon.
+    pub fn whole(&self) -> bool {
+        self.scripts >= WHOLE
+    }
+
+    /// Of lists of cases that are not random, one of so many is tried.
+    pub fn fewer(&self) -> u64 {
+        (WHOLE / self.scripts.max(1)).max(1)
     }
 
     /// The procedures and the program that were asked for.

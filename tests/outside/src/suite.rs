@@ -18,8 +18,6 @@ use crate::vector_store::Slip;
 use std::process::ExitCode;
 use std::time::Instant;
 
-/// A whole run has this many scripts at least; of fewer nothing is asked that they come upon.
-const WHOLE: u64 = 3_000;
 /// Of each group this many failing cases are cut down and kept; more would tell the same.
 const MOST_KEPT: usize = 3;
 
@@ -123,7 +121,7 @@ impl Suite<'_> {
     fn damaged(&mut self) {
         let seed = self.options.seed;
         let texts = byte_by_byte();
-        let fewer = if self.options.scripts < WHOLE { 10 } else { 1 };
+        let fewer = self.options.fewer();
         self.try_group(BYTE_BY_BYTE, texts.len() as u64 / fewer, &[Judge::Desk], |number, coverage| {
             noted(texts[(number * fewer) as usize].clone(), coverage)
         });
@@ -151,7 +149,7 @@ impl Suite<'_> {
 
     /// What a whole run must have come upon, one test each; only the rare ones are shown.
     fn come_upon(&mut self) {
-        if self.options.scripts < WHOLE {
+        if !self.options.whole() {
             return;
         }
         let mut enough = 0;

@@ -15,11 +15,12 @@ mod wrong_tables;
 
 use crate::case::Bench;
 use crate::coverage::Coverage;
+use crate::judges::Verdict;
 use crate::options::Options;
 use crate::random::Random;
 use crate::report::Report;
-use crate::vector_store::Slip;
-use bridge::Bridge;
+use crate::vector_store::{table_words, Slip};
+use call::{Call, UNWRITTEN};
 use damaged_tables::DamagedTables;
 use std::process::ExitCode;
 use std::time::Instant;
@@ -53,12 +54,13 @@ impl Group {
 pub fn run(options: &Options) -> ExitCode {
     println!("seed {}, bridge {} {}", options.seed, options.program.file, options.program.words.join(" "));
     let mut report = Report::default();
-    // Without a bridge that starts and ends, every case would fail alike.
-    if let Err(said) = Bridge::start(&options.program).and_then(Bridge::finish) {
+    let bench = options.bench();
+    // Without a bridge that starts, makes a call and ends, every case would fail alike.
+    if let Err(said) = first_call(&bench) {
         report.test(&said, false);
         return report.close();
     }
-    let mut client = Client { options, bench: options.bench(), report: &mut report };
+    let mut client = Client { options, bench, report: &mut report };
     client.sound_tables();
     client.damaged_tables();
     client.wrong_tables();
@@ -71,6 +73,12 @@ pub fn run(options: &Options) -> ExitCode {
     report.close()
 }
 
+fn first_call(bench: &Bench) -> Verdict {
+    let mut worker = Worker::new(bench);
+    worker.holds(&Call::make(0, [1, 1, 1], vec![UNWRITTEN; table_words(1, 1, 1)]));
+    worker.finish().failures.into_iter().next().map_or(Ok(()), |(_, said)| Err(said))
+}
+
 struct Client<'a> {
     options: &'a Options,
     bench: Bench,
@@ -80,41 +88,45 @@ struct Client<'a> {
 impl Client<'_> {
     fn sound_tables(&mut self) {
         let seed = self.options.seed;
-        let try_case = |case, worker: &mut Worker| sound_tables::try_schedule(worker, seed, case);
-        let coverage = self.try_group("steps on sound tables", self.options.scripts, try_case);
-        self.come_upon("steps on sound tables", &coverage, sound_tables::wanted());
+        self.try_group("steps on sound tables", self.options.scripts, sound_tables::wanted(), |case, worker| {
+            sound_tables::try_schedule(worker, seed, case);
+        });
     }
 
     fn damaged_tables(&mut self) {
         let tables = DamagedTables::of_seed(self.options.seed);
         let fewer = self.options.fewer();
-        let try_case = |case, worker: &mut Worker| tables.try_one(worker, case * fewer);
-        let coverage = self.try_group("damaged tables", tables.count() / fewer, try_case);
-        self.come_upon("damaged tables", &coverage, damaged_tables::wanted());
+        self.try_group("damaged tables", tables.count() / fewer, damaged_tables::wanted(), |case, worker| {
+            tables.try_one(worker, case * fewer);
+        });
     }
 
     fn wrong_tables(&mut self) {
         let tables = WrongTables::of_seed(self.options.seed);
-        self.try_group("tables of wrong length or header", tables.count(), |case, worker| tables.try_one(worker, case));
+        self.try_group("tables of wrong length or header", tables.count(), Vec::new(), |case, worker| {
+            tables.try_one(worker, case);
+        });
     }
 
     fn makings(&mut self) {
         let (seed, makings) = (self.options.seed, making_tables::all_makings());
-        let try_case =
-            |case, worker: &mut Worker| making_tables::try_making(worker, seed, case, makings[case as usize]);
-        self.try_group("making tables", makings.len() as u64, try_case);
+        self.try_group("making tables", makings.len() as u64, Vec::new(), |case, worker| {
+            making_tables::try_making(worker, seed, case, makings[case as usize]);
+        });
     }
 
     fn wrong_buffers(&mut self) {
         let buffers = WrongBuffers::of_seed(self.options.seed);
-        self.try_group("buffers of all lengths", buffers.count(), |case, worker| buffers.try_one(worker, case));
+        self.try_group("buffers of all lengths", buffers.count(), Vec::new(), |case, worker| {
+            buffers.try_one(worker, case);
+        });
     }
 
     fn long_runs(&mut self) {
         let seed = self.options.seed;
-        let try_case = |case, worker: &mut Worker| long_runs::try_runs(worker, seed, case);
-        let coverage = self.try_group("long runs on the largest table", long_runs::CASES, try_case);
-        self.come_upon("long runs on the largest table", &coverage, long_runs::wanted());
+        self.try_group("long runs on the largest table", long_runs::CASES, long_runs::wanted(), |case, worker| {
+            long_runs::try_runs(worker, seed, case);
+        });
     }
 
     fn slips(&mut self) {
@@ -127,7 +139,14 @@ impl Client<'_> {
         }
     }
 
-    fn try_group(&mut self, name: &str, count: u64, try_case: impl Fn(u64, &mut Worker) + Sync) -> Coverage {
+    /// Tries a group of cases, and asks what they came upon unless some failed already.
+    fn try_group(
+        &mut self,
+        name: &str,
+        count: u64,
+        wanted: Vec<(String, u64)>,
+        try_case: impl Fn(u64, &mut Worker) + Sync,
+    ) {
         let started = Instant::now();
         let tally = try_all(count, &self.bench, try_case);
         let seconds = started.elapsed().as_secs_f32();
@@ -135,14 +154,13 @@ impl Client<'_> {
             println!("FAILED: {name}, case {case}: {said}");
         }
         self.report.group(&format!("{name} ({seconds:.1} s)"), tally.passed, tally.failures.len() as u64);
-        tally.coverage
+        if self.options.whole() && tally.failures.is_empty() && !wanted.is_empty() {
+            self.come_upon(name, &tally.coverage, wanted);
+        }
     }
 
     /// What a group of a whole run must have come upon, one test each; only the rare ones are shown.
     fn come_upon(&mut self, group: &str, coverage: &Coverage, wanted: Vec<(String, u64)>) {
-        if !self.options.whole() {
-            return;
-        }
         let mut enough = 0;
         for (name, wanted) in wanted {
             let times = coverage.times(&name);

@@ -26,7 +26,7 @@ pub fn sound_table(random: &mut Random, sizes: [u32; 3], filled: Filled) -> Vec<
     let [servers, places, slots] = sizes;
     let steps = match filled {
         Filled::Fresh => Vec::new(),
-        Filled::Partly => busy_steps(random, sizes, slots + 3 * places / 2),
+        Filled::Partly => busy_steps(random, sizes, slots + 2 * places),
         Filled::Full => [busy_steps(random, sizes, slots + 8 * places), all_exchanges(servers)].concat(),
     };
     let mut table = fresh_table(sizes);

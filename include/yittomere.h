@@ -9,8 +9,9 @@
  *     yittomere_run     takes a list of steps
  *
  * The words are all there is. The library allocates nothing, keeps no pointer and has no state of its own: a table may be
- * copied, stored and loaded as its words, and threads may work on different tables at once. A call uses about 17 kB of stack.
- * Each step checks the whole table first, so its time grows with the table's words and with the number of servers.
+ * copied, stored and loaded as its words, and threads may work on different tables at once. A call uses about 17 kB of stack,
+ * and what the C library's memcpy and memset want. Each step checks the whole table first, so its time grows with the table's
+ * words and with the number of servers.
  *
  * This holds of all three calls:
  *

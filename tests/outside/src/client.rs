@@ -2,13 +2,13 @@
 //! word of table and answers.
 
 mod bridge;
-mod call;
+pub mod call;
 mod damaged_tables;
 mod long_runs;
 mod making_tables;
 mod slips;
 mod sound_tables;
-mod tables;
+pub mod tables;
 mod worker;
 mod wrong_buffers;
 mod wrong_tables;

@@ -2,6 +2,8 @@
 //! (`vector_store`), the plain book (`book`) and the desk's text (`desk_text`), are held against each other and against the
 //! built program on random schedules. README.md beside this package tells what is tried and how a failure is read.
 
+#[cfg(feature = "linked")]
+mod benchmark;
 mod book;
 mod case;
 mod client;
@@ -46,6 +48,7 @@ fn main() -> ExitCode {
         Order::Try(file) => try_file(Path::new(file), &options.bench()),
         Order::Suite => suite::run(&options),
         Order::Client => client::run(&options),
+        Order::Benchmark => benchmark(&options),
     }
 }
 
@@ -62,6 +65,18 @@ fn reply(procedures: Procedures) -> ExitCode {
             ExitCode::FAILURE
         }
     }
+}
+
+/// Times the library's calls, if they are in this program.
+#[cfg(feature = "linked")]
+fn benchmark(options: &Options) -> ExitCode {
+    benchmark::run(options)
+}
+
+#[cfg(not(feature = "linked"))]
+fn benchmark(_: &Options) -> ExitCode {
+    eprintln!("outside: this program is built without the library (tools/benchmark.sh builds it with it)");
+    ExitCode::from(2)
 }
 
 /// Says what each judge says of one file.

@@ -10,6 +10,7 @@ usage: outside [OPTIONS] [-- PROGRAM WORDS..]            tries everything; the l
        outside [OPTIONS] client [-- BRIDGE WORDS..]      tries the C calls, which the bridge makes; the last line is the same
        outside [OPTIONS] try FILE [-- PROGRAM WORDS..]   says what each judge says of one case (.txt or .words)
        outside [OPTIONS] reply                           answers a text on standard input as the desk does
+       outside benchmark                                 times the library's calls (tools/benchmark.sh)
 PROGRAM, run with the words behind it, is held to the rules; the usual one is target/bin/desk
 BRIDGE is the program of tests/client/bridge.c; the usual one is target/client/bridge
 options: --kept FOLDER    the cases that are tried in every run, and where a failing one goes (tests/regressions)
@@ -26,6 +27,7 @@ const WHOLE: u64 = 3_000;
 pub enum Order {
     Suite,
     Client,
+    Benchmark,
     Try(String),
     Reply,
 }
@@ -64,6 +66,7 @@ impl Options {
                     options.order = Order::Client;
                     options.program = Program { file: "target/client/bridge".to_string(), words: Vec::new() };
                 }
+                "benchmark" => options.order = Order::Benchmark,
                 "try" => options.order = Order::Try(value()?),
                 "reply" => options.order = Order::Reply,
                 "--" => {

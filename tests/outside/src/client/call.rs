@@ -77,16 +77,21 @@ impl Call {
     /// What the procedures make of the same call. A step wants an answer buffer of five words before anything else.
     pub fn wanted(&self, procedures: Procedures) -> Outcome {
         let (mut table, mut answers) = (self.table.clone(), self.answers.clone());
-        let code = match &self.asked {
-            Asked::Make([servers, places, slots]) => procedures.make(*servers, *places, *slots, &mut table),
+        let code = self.made_by(procedures, &mut table, &mut answers);
+        Outcome { code, table, answers }
+    }
+
+    /// The same in other buffers: the returned code.
+    pub fn made_by(&self, procedures: Procedures, table: &mut [u32], answers: &mut [u32]) -> u32 {
+        match &self.asked {
+            Asked::Make([servers, places, slots]) => procedures.make(*servers, *places, *slots, table),
             Asked::Step(_) if answers.len() != 5 => 8,
             Asked::Step(step) => {
-                answers.copy_from_slice(&procedures.step(&mut table, *step));
+                answers.copy_from_slice(&procedures.step(table, *step));
                 answers[0]
             }
-            Asked::Run(steps) => procedures.run(&mut table, steps, &mut answers),
-        };
-        Outcome { code, table, answers }
+            Asked::Run(steps) => procedures.run(table, steps, answers),
+        }
     }
 }
 

@@ -3,6 +3,7 @@
 # processor that the library is compiled for.
 set -u
 cd "$(dirname "$(readlink -f "${BASH_SOURCE[0]}")")/.." || exit 1
+. tools/cargo.sh
 
 give_up() {
     echo "tools/benchmark.sh: $1" >&2
@@ -12,11 +13,9 @@ give_up() {
 if [ "$HOSTTYPE" != x86_64 ]; then
     give_up "the library is compiled for x86-64, and this is $HOSTTYPE: times under an emulator tell nothing"
 fi
-# Where rustup puts it, if that is not on the path.
-PATH=$PATH:${CARGO_HOME:-${HOME:-/root}/.cargo}/bin
-command -v cargo >/dev/null || give_up "'cargo' is not on the path (Rust 1.63 or newer; Debian has it in the package cargo)"
+have_cargo tools/benchmark.sh || exit 1
 command -v rt >/dev/null || give_up "'rt' is not on the path"
 
 rt staticlib yittomere || give_up 'the library can not be made'
 echo "library: $(rt version)"
-cargo run --profile benchmark --features linked --offline --quiet --manifest-path tests/outside/Cargo.toml --target-dir target/outside -- benchmark
+in_package run --profile benchmark --features linked -- benchmark

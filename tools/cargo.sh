@@ -1,4 +1,4 @@
-# cargo for the Rust package tests/outside, whose files go to target/outside. Its programs are built for release.
+# cargo for the Rust package tests/outside, whose files go to target/outside.
 
 # Where rustup puts it, if that is not on the path.
 PATH=$PATH:${CARGO_HOME:-${HOME:-/root}/.cargo}/bin
@@ -11,5 +11,7 @@ have_cargo() { # NAME
 }
 
 in_package() { # COMMAND WORDS..
-    cargo "$@" --offline --quiet --manifest-path tests/outside/Cargo.toml --target-dir target/outside
+    local command=$1
+    shift
+    cargo "$command" --offline --quiet --manifest-path tests/outside/Cargo.toml --target-dir target/outside "$@"
 }

@@ -16,6 +16,10 @@ fi
 have_cargo tools/benchmark.sh || exit 1
 command -v rt >/dev/null || give_up "'rt' is not on the path"
 
-rt staticlib yittomere || give_up 'the library can not be made'
+mkdir -p target
+if ! rt staticlib yittomere >target/benchmark-library.log 2>&1; then
+    tail -n 20 target/benchmark-library.log >&2
+    give_up "the library can't be made"
+fi
 echo "library: $(rt version)"
 in_package run --profile benchmark --features linked -- benchmark

@@ -154,5 +154,6 @@ pub fn same_words(what: Arguments, words: &[u32], wanted: &[u32]) -> Verdict {
         return Ok(());
     }
     let place = words.iter().zip(wanted).take_while(|(a, b)| a == b).count();
-    Err(format!("{what}: word {place} is {:?}, not {:?}", words.get(place), wanted.get(place)))
+    let shown = |words: &[u32]| words.get(place).map_or("missing".to_string(), u32::to_string);
+    Err(format!("{what}: word {place} is {}, not {}", shown(words), shown(wanted)))
 }

@@ -13,18 +13,19 @@ use std::time::{Duration, Instant};
 /// Each call is timed until it took so long in all, on either side,
 const ENOUGH: Duration = Duration::from_millis(600);
 /// and so often at least.
-const LEAST_ROUNDS: usize = 7;
+const LEAST_ROUNDS: usize = 8;
 
 const INSIDE: &str = "\
 Inside the measured part: the call alone, that is the check of the whole table and the step, or all of them for a run.
 Outside: copying the table before each call, and comparing returned code, answers and every word of the table after it.
-The two sides take turns in one process; the ratio is the library's time by that of the vector procedures in Rust.";
+The two sides work in one process and in the same memory, and take turns in being first; the ratio is the library's time by that of the vector procedures in Rust.
+The ratio depends much on how the Rust side is built (tests/outside/README.md): this is the fastest of twelve ways tried.";
 
 /// Times everything and prints it.
 pub fn run(options: &Options) -> ExitCode {
     println!("largest table: 16 servers, 1,024 places, 16 slots, 66,356 words");
     println!("processor: {}", processor());
-    println!("procedures: {}; opt-level 3, lto fat, codegen-units 1, no overflow checks", env!("OUTSIDE_COMPILER"));
+    println!("procedures: {}; opt-level 3, lto fat, codegen-units 16, no overflow checks", env!("OUTSIDE_COMPILER"));
     println!("{INSIDE}\n");
     println!("{:38} {:>7} {:>23} {:>23} {:>15}", "", "", "library", "Rust", "ratio");
     println!(
@@ -43,50 +44,56 @@ pub fn run(options: &Options) -> ExitCode {
     ExitCode::SUCCESS
 }
 
-/// What was measured: one time for each round, of both sides.
-#[derive(Default)]
+/// What was measured: the times of each round, least first.
 struct Times {
     library: Vec<Duration>,
     procedures: Vec<Duration>,
 }
 
-/// Times a call on both sides, in turn. Err says what differs.
+/// Times a call on both sides. They work in the same buffers, and take turns in being first. Err says what differs.
 fn time(procedures: Procedures, timed: &Timed) -> Result<Times, String> {
-    let by_library = |table: &mut [u32], answers: &mut [u32]| made_by_library(&timed.call.asked, table, answers);
-    let by_procedures = |table: &mut [u32], answers: &mut [u32]| timed.call.made_by(procedures, table, answers);
-    let mut times = Times::default();
-    // The first round finds nothing in the caches, and is left out.
-    one_call(&timed.call, by_library);
-    one_call(&timed.call, by_procedures);
-    while times.are_too_few() {
-        let (library_time, came_of) = one_call(&timed.call, by_library);
-        let (procedures_time, wanted) = one_call(&timed.call, by_procedures);
-        came_of.compared(&wanted)?;
-        if (wanted.answers[0], wanted.answers[4]) != timed.answer {
-            return Err(format!("answers {:?}, which is not what is to be timed", &wanted.answers[..5]));
+    let call = &timed.call;
+    let by_library = |table: &mut [u32], answers: &mut [u32]| made_by_library(&call.asked, table, answers);
+    let by_procedures = |table: &mut [u32], answers: &mut [u32]| call.made_by(procedures, table, answers);
+    let sides: [&Side; 2] = [&by_library, &by_procedures];
+    let wanted = call.wanted(procedures);
+    if (wanted.answers[0], wanted.answers[4]) != timed.answer {
+        return Err(format!("answers {:?}, which is not what is to be timed", &wanted.answers[..5]));
+    }
+    let mut buffers = wanted.clone();
+    let mut times = [Vec::new(), Vec::new()];
+    for round in 0.. {
+        for side in [round % 2, (round + 1) % 2] {
+            let took = one_call(call, &mut buffers, sides[side]);
+            buffers.compared(&wanted)?;
+            // The first rounds find nothing in the caches, and are left out.
+            if round >= 2 {
+                times[side].push(took);
+            }
         }
-        times.library.push(library_time);
-        times.procedures.push(procedures_time);
+        if times.iter().all(|times| are_enough(times)) {
+            break;
+        }
     }
-    times.library.sort_unstable();
-    times.procedures.sort_unstable();
-    Ok(times)
+    times.iter_mut().for_each(|times| times.sort_unstable());
+    let [library, procedures] = times;
+    Ok(Times { library, procedures })
 }
 
-impl Times {
-    fn are_too_few(&self) -> bool {
-        let total = |times: &[Duration]| times.iter().sum::<Duration>();
-        self.library.len() < LEAST_ROUNDS || total(&self.library).min(total(&self.procedures)) < ENOUGH
-    }
+/// Who makes a call, in a table and a buffer for answers; it returns the code.
+type Side<'a> = dyn Fn(&mut [u32], &mut [u32]) -> u32 + 'a;
+
+fn are_enough(times: &[Duration]) -> bool {
+    times.len() >= LEAST_ROUNDS && times.iter().sum::<Duration>() >= ENOUGH
 }
 
-/// Makes a call on a copy of its words: how long it took, and what came of it.
-fn one_call(call: &Call, make: impl Fn(&mut [u32], &mut [u32]) -> u32) -> (Duration, Outcome) {
-    let (mut table, mut answers) = (call.table.clone(), call.answers.clone());
+/// Puts the words of a call into the buffers and makes it there: how long it took.
+fn one_call(call: &Call, buffers: &mut Outcome, make: &Side) -> Duration {
+    buffers.table.copy_from_slice(&call.table);
+    buffers.answers.copy_from_slice(&call.answers);
     let started = Instant::now();
-    let code = make(&mut table, &mut answers);
-    let took = started.elapsed();
-    (took, Outcome { code, table, answers })
+    buffers.code = make(&mut buffers.table, &mut buffers.answers);
+    started.elapsed()
 }
 
 fn made_by_library(asked: &Asked, table: &mut [u32], answers: &mut [u32]) -> u32 {

@@ -1,6 +1,6 @@
 #!/usr/bin/env bash
-# Makes the library and times its calls on the largest table, beside the Rust procedures of tests/outside on the same words. It wants cargo, and a
-# processor that the library is compiled for.
+# Makes the library and times its calls on the largest table, beside the Rust procedures of tests/outside on the same words, built in two ways.
+# It wants cargo, and a processor that the library is compiled for.
 set -u
 cd "$(dirname "$(readlink -f "${BASH_SOURCE[0]}")")/.." || exit 1
 . tools/cargo.sh
@@ -22,4 +22,10 @@ if ! rt staticlib yittomere >target/benchmark-library.log 2>&1; then
     give_up "the library can't be made"
 fi
 echo "library: $(rt version)"
-in_package run --profile benchmark --features linked -- benchmark
+# How fast the Rust side is depends much on how it is built (docs/BENCHMARKS.md).
+echo
+echo '== the Rust procedures as cargo builds them for release'
+in_package run --profile benchmark --features linked -- benchmark || give_up 'the benchmark failed'
+echo
+echo '== the Rust procedures in the fastest build that was found'
+in_package run --profile benchmark-fastest --features linked -- benchmark || give_up 'the benchmark failed'

@@ -18,14 +18,14 @@ const LEAST_ROUNDS: usize = 8;
 const INSIDE: &str = "\
 Inside the measured part: the call alone, that is the check of the whole table and the step, or all of them for a run.
 Outside: copying the table before each call, and comparing returned code, answers and every word of the table after it.
-The two sides work in one process and in the same memory, and take turns in being first; the ratio is the library's time by that of the vector procedures in Rust.
-The ratio depends much on how the Rust side is built (tests/outside/README.md): this is the fastest of twelve ways tried.";
+The two sides work in one process and in the same memory, and take turns in being first; the ratio is the library's time by
+that of the vector procedures in Rust.";
 
 /// Times everything and prints it.
 pub fn run(options: &Options) -> ExitCode {
     println!("largest table: 16 servers, 1,024 places, 16 slots, 66,356 words");
     println!("processor: {}", processor());
-    println!("procedures: {}; opt-level 3, lto fat, codegen-units 16, no overflow checks", env!("OUTSIDE_COMPILER"));
+    println!("procedures: compiled by {}", env!("OUTSIDE_COMPILER"));
     println!("{INSIDE}\n");
     println!("{:38} {:>7} {:>23} {:>23} {:>15}", "", "", "library", "Rust", "ratio");
     println!(

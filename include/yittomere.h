@@ -29,7 +29,7 @@
  *    overlaps none.
  *
  * Build with:  rt staticlib yittomere
- * Link with:   cc -I include client.c target/staticlib/libyittomere.a     (x86-64)
+ * Link with:   cc -I include client.c target/staticlib/libyittomere.a     (Linux on x86-64)
  */
 #ifndef YITTOMERE_H
 #define YITTOMERE_H

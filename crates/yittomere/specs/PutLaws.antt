@@ -12,7 +12,7 @@ use lib.ListN.{length, set}
 use Rattle.words.specs.SetLaws.{splice-all}
 use Rattle.words.specs.TestLaws.{cond-true, cond-false, either, and-both, not-true-false, and-left}
 use Rattle.rules.specs.Step.{Step, stepWords, Answer, answerWords}
-use Rattle.rules.specs.Calls.{step, walk, lengthsFit, run, StepPromise}
+use Rattle.rules.specs.Calls.{step, Walked, walk, lengthsFit, run, StepPromise}
 use Rattle.rules.specs.CallLaws.{walk-one, Refusal, step-refused}
 use Rattle.rules.specs.RunLaws.{run-fits, run-misfits, stepsOf-stepWords}
 use Rattle.rules.specs.Exact.{given-exactly}
@@ -58,22 +58,30 @@ module _ (t : List ℕ) (x : Step) (buffer : List ℕ) where
 
   -- ---- a run of one step
 
-  -- Table and buffer are those of a run of this step alone, whatever the buffer's length. Where the lengths fit the run's own code is 0.
-  pub put-runs : (put t x buffer .table ≡ run t (stepWords (x ∷ [])) buffer .table) × (put t x buffer .answers ≡ run t (stepWords (x ∷ [])) buffer .answers)
+  abbrev list : List ℕ
+  list = stepWords (x ∷ [])
+
+  one-fits : length buffer ≡ 5 → run t list buffer ≡ record { code = 0; table = step t x .table; answers = answerWords (step t x .answer ∷ []) }
   unfolding lengthsFit stepWords
+  one-fits h =
+      run-fits t list buffer (and-both _ _ (eq-eqb 5 (length buffer) (sym h)) refl)
+      ∙ ap (λ (w : Walked). record { code = 0; table = w .table; answers = answerWords (w .answers) }) (ap (walk t) (stepsOf-stepWords (x ∷ [])) ∙ walk-one t x)
+
+  one-misfits : (length buffer ≡ 5 → ⊥) → run t list buffer ≡ record { code = 8; table = t; answers = buffer }
+  unfolding lengthsFit stepWords
+  one-misfits h =
+      run-misfits t list buffer (not-true-false _ (λ fit. h (sym (eqb-true 5 (length buffer) (and-left (eqb 5 (length buffer)) _ fit)))))
+
+  -- Table and buffer are those of a run of this step alone, whatever the buffer's length. Where the lengths fit the run's own code is 0.
+  pub put-runs : (put t x buffer .table ≡ run t list buffer .table) × (put t x buffer .answers ≡ run t list buffer .answers)
   put-runs =
-      ⊎-elim (λ h. let five = eqb-true (length buffer) 5 h in
-      let ran = run-fits t (stepWords (x ∷ [])) buffer (and-both _ _ (eq-eqb 5 (length buffer) (sym five)) refl) in
-      let one = ap (λ xs. walk t xs) (stepsOf-stepWords (x ∷ [])) ∙ walk-one t x in (
-        ap (λ r. r .table) (put-fits five) ∙ sym (ap (λ r. r .table) ran ∙ ap (λ w. w .table) one),
-        ap (λ r. r .answers) (put-fits five) ∙ sym (ap (λ r. r .answers) ran ∙ ap (λ w. answerWords (w .answers)) one),
-      ))
-      (λ h. let other = eqb-false (length buffer) 5 h in
-      let ran = run-misfits t (stepWords (x ∷ [])) buffer (not-true-false _ (λ fit. other (sym (eqb-true 5 (length buffer) (and-left (eqb 5 (length buffer)) _ fit))))) in (
-        ap (λ r. r .table) (put-misfits other) ∙ sym (ap (λ r. r .table) ran),
-        ap (λ r. r .answers) (put-misfits other) ∙ sym (ap (λ r. r .answers) ran),
-      ))
-      (either (eqb (length buffer) 5))
+      ⊎-elim (λ h. let five = eqb-true (length buffer) 5 h in alike (put-fits five) (one-fits five))
+      (λ h. let other = eqb-false (length buffer) 5 h in alike (put-misfits other) (one-misfits other)) (either (eqb (length buffer) 5))
+    where
+      alike : {c d : ℕ} {left answers : List ℕ} → put t x buffer ≡ record { code = c; table = left; answers = answers }
+          → run t list buffer ≡ record { code = d; table = left; answers = answers }
+          → (put t x buffer .table ≡ run t list buffer .table) × (put t x buffer .answers ≡ run t list buffer .answers)
+      alike e f = (ap (λ r. r .table) e ∙ sym (ap (λ r. r .table) f), ap (λ r. r .answers) e ∙ sym (ap (λ r. r .answers) f))
 
   -- ---- the promise
 

@@ -7,6 +7,9 @@ use std::process::{Child, ChildStdin, ChildStdout, Command, Output, Stdio};
 
 const WORD_BYTES: usize = 4;
 
+/// It has room for so many words in each buffer.
+pub const MOST_WORDS: usize = 131_072;
+
 /// The program while it runs.
 pub struct Bridge {
     child: Child,

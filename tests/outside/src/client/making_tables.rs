@@ -1,5 +1,6 @@
 //! Making tables of all kinds of sizes, in buffers that fit and that don't.
 
+use super::bridge::MOST_WORDS;
 use super::call::Call;
 use super::worker::Worker;
 use super::Group;
@@ -10,8 +11,6 @@ use crate::vector_store::table_words;
 const FAR: [u32; 6] = [1, 16, 1026, 65_536, 1 << 31, u32::MAX];
 /// Buffers for sizes that no buffer would fit.
 const LENGTHS: [usize; 4] = [0, 4, 14, 66_356];
-/// The bridge has room for so many words.
-const MOST_WORDS: usize = 131_072;
 
 /// Sizes and lengths: at the limits in fitting, shorter and longer buffers and in none, and far beyond them.
 pub fn all_makings() -> Vec<([u32; 3], usize)> {

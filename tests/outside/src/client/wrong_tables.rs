@@ -1,5 +1,6 @@
 //! Words that are no table, by their length or their header.
 
+use super::bridge::MOST_WORDS;
 use super::call::Call;
 use super::tables::{proper_step, sound_table, Filled};
 use super::worker::Worker;
@@ -19,9 +20,6 @@ const SIZES: [([u32; 3], Filled); 4] = [
 const HEADER_WORDS: [u32; 14] = [
     0, 1, 2, 15, 16, 17, 255, 1023, 1024, 1025, 65_535, 65_536, 1 << 31, u32::MAX,
 ];
-
-/// The bridge has room for so many words.
-const MOST_WORDS: usize = 131_072;
 
 /// One of the sound tables with other words in its header, cut or filled with zeros to a length.
 #[derive(Clone, Copy, Debug, PartialEq, Eq)]

@@ -1,2 +1,2 @@
-pub mod Put
-pub mod PutLaws
+pub mod StepInto
+pub mod StepIntoLaws

@@ -2,7 +2,7 @@
 // programmer must know. None asks anything of the numbers and words that it is given.
 ghost use Rattle.tables.specs.Make.{MakePromise};
 ghost use Rattle.rules.specs.Calls.{RunPromise};
-ghost use Rattle.yittomere.specs.Put.{PutPromise};
+ghost use Rattle.yittomere.specs.StepInto.{StepIntoPromise};
 
 // Makes a fresh table in the lent words. Answers 0; or 2 if a number is out of its limits, or 8 if there are not exactly as many
 // words as the table has, and then every word is kept.
@@ -25,7 +25,7 @@ pub extern "C" fn yittomere_step(
     d: u32,
     answer: &mut [u32],
 ) -> u32
-    ensures { λ r. ⌜ PutPromise (now (table .entry)) (record { kind = kind; a = a; b = b; c = c; d = d }) (now (answer .entry)) r (now (table .exit)) (now (answer .exit)) ⌝ }
+    ensures { λ r. ⌜ StepIntoPromise (now (table .entry)) (record { kind = kind; a = a; b = b; c = c; d = d }) (now (answer .entry)) r (now (table .exit)) (now (answer .exit)) ⌝ }
 {
     if answer.len() != 5 {
         return 8;

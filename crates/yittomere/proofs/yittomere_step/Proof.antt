@@ -1,13 +1,13 @@
 -- `yittomere::yittomere_step` meets its contract: the step's answer is stored in five words, or nothing is done. Assumes nothing.
 use borrow.Author.Needs.{needs}
-use Rattle.yittomere.specs.PutLaws.{put-nothing, put-stored}
+use Rattle.yittomere.specs.StepIntoLaws.{stepInto-nothing, stepInto-stored}
 use lib.ListN.{length-set}
 use native.Mathlib.Omega.{arith}
 use Rattle.yittomere.proofs.yittomere_step.Statement.{statement}
 use Rattle.yittomere.proofs.yittomere_step.Tie as tie
 
 returns : tie.Need-returns
-returns c = put-nothing _ _ _ (c .if1 .taken)
+returns c = stepInto-nothing _ _ _ (c .if1 .taken)
 
 step-requires : tie.Need-step-requires
 step-requires c κs = search needs
@@ -34,7 +34,7 @@ same-length-2 : tie.Need-same-length-2
 same-length-2 c = search needs
 
 returns-2 : tie.Need-returns-2
-returns-2 c = put-stored _ _ _ (c .before .before .before .before .if1 .left) _ (c .before .before .step .ensures)
+returns-2 c = stepInto-stored _ _ _ (c .before .before .before .before .if1 .left) _ (c .before .before .step .ensures)
 
 pub yittomere-step-spec : {M : Type 1} → statement M
 yittomere-step-spec =

@@ -10,15 +10,15 @@ use Rattle.rules.specs.Calls.{step, Ran}
 
 -- The step's code, its table and the five words of its answer, if the buffer has exactly five. Else 8, "a length doesn't fit": no step is taken,
 -- and table and buffer keep every word, as in a run.
-unfoldable pub put : List ℕ → Step → List ℕ → Ran
-put t x buffer =
+unfoldable pub stepInto : List ℕ → Step → List ℕ → Ran
+stepInto t x buffer =
     cond
     (eqb (length buffer) 5)
     (record { code = step t x .answer .code; table = step t x .table; answers = answerWords (step t x .answer ∷ []) })
     (record { code = 8; table = t; answers = buffer })
 
--- The promise of a step in C: the code and every word of table and buffer are those of `put`.
-pub record PutPromise (t : List ℕ) (x : Step) (buffer : List ℕ) (code : ℕ) (left written : List ℕ) : Type 0 where
-  pub code-is : code ≡ put t x buffer .code
-  pub table-is : left ≡ put t x buffer .table
-  pub answer-is : written ≡ put t x buffer .answers
+-- The promise of a step in C: the code and every word of table and buffer are those of `stepInto`.
+pub record StepIntoPromise (t : List ℕ) (x : Step) (buffer : List ℕ) (code : ℕ) (left written : List ℕ) : Type 0 where
+  pub code-is : code ≡ stepInto t x buffer .code
+  pub table-is : left ≡ stepInto t x buffer .table
+  pub answer-is : written ≡ stepInto t x buffer .answers

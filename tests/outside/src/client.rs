@@ -14,10 +14,8 @@ mod wrong_buffers;
 mod wrong_tables;
 
 use crate::case::Bench;
-use crate::coverage::Coverage;
 use crate::judges::Verdict;
 use crate::options::Options;
-use crate::random::Random;
 use crate::report::Report;
 use crate::vector_store::{table_words, Slip};
 use call::{Call, UNWRITTEN};
@@ -30,25 +28,6 @@ use wrong_tables::WrongTables;
 
 /// Of each group this many failing cases are shown; more would tell the same.
 const MOST_SHOWN: usize = 3;
-
-/// Each group has random numbers of its own, so that a group can grow without changing the others. The suite has the first four.
-#[derive(Clone, Copy)]
-enum Group {
-    SoundTables = 4,
-    Tables = 5,
-    Damages = 6,
-    DamagedTables = 7,
-    WrongTables = 8,
-    Makings = 9,
-    WrongBuffers = 10,
-    LongRuns = 11,
-}
-
-impl Group {
-    fn random(self, seed: u64, number: u64) -> Random {
-        Random::of_case(seed.wrapping_add(self as u64), number)
-    }
-}
 
 /// Makes all calls and prints what came of them.
 pub fn run(options: &Options) -> ExitCode {
@@ -75,7 +54,7 @@ pub fn run(options: &Options) -> ExitCode {
 
 fn first_call(bench: &Bench) -> Verdict {
     let mut worker = Worker::new(bench);
-    worker.holds(&Call::make(0, [1, 1, 1], vec![UNWRITTEN; table_words(1, 1, 1)]));
+    worker.try_call(&Call::make(0, [1, 1, 1], vec![UNWRITTEN; table_words(1, 1, 1)]));
     worker.finish().failures.into_iter().next().map_or(Ok(()), |(_, said)| Err(said))
 }
 
@@ -155,22 +134,8 @@ impl Client<'_> {
         }
         self.report.group(&format!("{name} ({seconds:.1} s)"), tally.passed, tally.failures.len() as u64);
         if self.options.whole() && tally.failures.is_empty() && !wanted.is_empty() {
-            self.come_upon(name, &tally.coverage, wanted);
+            println!("  {}", tally.coverage.listed());
+            self.report.come_upon(&format!("{name}, come upon"), &tally.coverage, wanted);
         }
-    }
-
-    /// What a group of a whole run must have come upon, one test each; only the rare ones are shown.
-    fn come_upon(&mut self, group: &str, coverage: &Coverage, wanted: Vec<(String, u64)>) {
-        let mut enough = 0;
-        for (name, wanted) in wanted {
-            let times = coverage.times(&name);
-            if times >= wanted {
-                enough += 1;
-            } else {
-                self.report.test(&format!("{group}: {name}: {times} times, {wanted} wanted"), false);
-            }
-        }
-        println!("  {}", coverage.listed());
-        self.report.group(&format!("{group}, come upon"), enough, 0);
     }
 }

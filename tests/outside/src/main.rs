@@ -11,6 +11,7 @@ mod coverage;
 mod cutting;
 mod damage;
 mod desk_text;
+mod group;
 mod history;
 mod judges;
 mod kept;

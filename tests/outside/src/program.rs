@@ -1,7 +1,7 @@
 //! The program that is held to the rules: the built desk, run on a text.
 
 use std::io::{ErrorKind, Write};
-use std::process::{Command, Stdio};
+use std::process::{Child, Command, Stdio};
 
 /// A program that reads a text on standard input and prints its answer.
 #[derive(Clone, Debug)]
@@ -13,16 +13,21 @@ pub struct Program {
 }
 
 impl Program {
-    /// What it prints for the text. Err says what else it did: an exit status other than 0, or a word on standard error.
-    pub fn output(&self, text: &[u8]) -> Result<Vec<u8>, String> {
-        let told = |error: std::io::Error| format!("{}: {}", self.file, error);
-        let mut child = Command::new(&self.file)
+    /// Starts it, with pipes to and from it.
+    pub fn start(&self) -> Result<Child, String> {
+        Command::new(&self.file)
             .args(&self.words)
             .stdin(Stdio::piped())
             .stdout(Stdio::piped())
             .stderr(Stdio::piped())
             .spawn()
-            .map_err(told)?;
+            .map_err(|error| format!("{}: {error}", self.file))
+    }
+
+    /// What it prints for the text. Err says what else it did: an exit status other than 0, or a word on standard error.
+    pub fn output(&self, text: &[u8]) -> Result<Vec<u8>, String> {
+        let told = |error: std::io::Error| format!("{}: {}", self.file, error);
+        let mut child = self.start()?;
         if let Some(mut input) = child.stdin.take() {
             // The program need not read more than its limit of a long text.
             match input.write_all(text) {

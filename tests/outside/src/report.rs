@@ -1,5 +1,6 @@
 //! What is printed, and the count that closes a run.
 
+use crate::coverage::Coverage;
 use crate::judges::Verdict;
 use std::process::ExitCode;
 
@@ -23,6 +24,20 @@ impl Report {
         let found: Vec<&String> = verdicts.iter().filter_map(|verdict| verdict.as_ref().err()).collect();
         found.iter().for_each(|said| println!("FAILED: {said}"));
         self.group(name, (verdicts.len() - found.len()) as u64, found.len() as u64);
+    }
+
+    /// What must have been come upon, and how often: one test each, of which those that failed are shown.
+    pub fn come_upon(&mut self, name: &str, coverage: &Coverage, wanted: Vec<(String, u64)>) {
+        let mut enough = 0;
+        for (thing, wanted) in wanted {
+            let times = coverage.times(&thing);
+            if times >= wanted {
+                enough += 1;
+            } else {
+                self.test(&format!("{name}: {thing}: {times} times, {wanted} wanted"), false);
+            }
+        }
+        self.group(name, enough, 0);
     }
 
     /// Counts one test and says it.

@@ -5,10 +5,10 @@ use crate::case::{Bench, Case, Judge};
 use crate::coverage::{Coverage, AT_RANDOM, AT_THE_LIMITS, BYTE_BY_BYTE, SCRIPTS, WORDS};
 use crate::damage::{byte_by_byte, damaged_text, text_at_the_limits};
 use crate::desk_text::{read, spell, Reading};
+use crate::group::Group;
 use crate::kept::{keep, kept_cases};
 use crate::making::{schedule_of_case, script_of_case};
 use crate::options::Options;
-use crate::random::Random;
 use crate::report::{on_one_line, Report};
 use crate::sizes::{all_sizes, judge_sizes};
 use crate::slips::{finders, found};
@@ -23,21 +23,6 @@ const MOST_KEPT: usize = 3;
 
 /// What the programs `cases`, `damaged` and `buffers` print.
 const STORED_LINES: [&str; 3] = ["crates/cases/stdout", "crates/damaged/stdout", "crates/buffers/stdout"];
-
-/// Each group of cases has numbers of its own, so that a group can grow without changing the others.
-#[derive(Clone, Copy)]
-enum Group {
-    Scripts = 0,
-    Words = 1,
-    Damaged = 2,
-    Limits = 3,
-}
-
-impl Group {
-    fn random(self, seed: u64, number: u64) -> Random {
-        Random::of_case(seed.wrapping_add(self as u64), number)
-    }
-}
 
 /// Runs everything and prints it.
 pub fn run(options: &Options) -> ExitCode {
@@ -126,10 +111,10 @@ impl Suite<'_> {
             noted(texts[(number * fewer) as usize].clone(), coverage)
         });
         self.try_group(AT_RANDOM, self.options.scripts / 4, &[Judge::Desk], |number, coverage| {
-            noted(damaged_text(&mut Group::Damaged.random(seed, number), number), coverage)
+            noted(damaged_text(&mut Group::DamagedTexts.random(seed, number), number), coverage)
         });
         self.try_group(AT_THE_LIMITS, self.options.scripts / 16, &[Judge::Desk], |number, coverage| {
-            noted(text_at_the_limits(&mut Group::Limits.random(seed, number)), coverage)
+            noted(text_at_the_limits(&mut Group::TextsAtTheLimits.random(seed, number)), coverage)
         });
     }
 
@@ -147,22 +132,13 @@ impl Suite<'_> {
         }
     }
 
-    /// What a whole run must have come upon, one test each; only the rare ones are shown.
+    /// What a whole run must have come upon.
     fn come_upon(&mut self) {
         if !self.options.whole() {
             return;
         }
-        let mut enough = 0;
-        for (name, wanted) in Coverage::wanted() {
-            let times = self.coverage.times(&name);
-            if times >= wanted {
-                enough += 1;
-            } else {
-                self.report.test(&format!("come upon {name}: {times} times, {wanted} wanted"), false);
-            }
-        }
         println!("{}", self.coverage.summary());
-        self.report.group("come upon", enough, 0);
+        self.report.come_upon("come upon", self.coverage, Coverage::wanted());
     }
 
     fn try_group(

@@ -2,8 +2,8 @@
 
 use crate::case::{Bench, Case, Judge};
 use crate::coverage::Coverage;
+use std::iter;
 use std::sync::atomic::{AtomicU64, Ordering};
-use std::sync::Mutex;
 use std::thread;
 
 /// A case that a judge found fault with.
@@ -49,30 +49,29 @@ pub fn try_cases(
     bench: &Bench,
     make: impl Fn(u64, &mut Coverage) -> Case + Sync,
 ) -> Tally {
-    let next = AtomicU64::new(0);
-    let all = Mutex::new(Tally::default());
-    let work = || {
+    let tallies = on_all_processors(count, |numbers| {
         let mut tally = Tally::default();
-        loop {
-            let number = next.fetch_add(1, Ordering::Relaxed);
-            if number >= count {
-                break;
-            }
+        for number in numbers {
             let case = make(number, &mut tally.coverage);
             tally.try_case(number, case, judges, bench);
         }
-        // Nobody panics while holding it, so it is never poisoned.
-        if let Ok(mut all) = all.lock() {
-            all.add_all(tally);
-        }
-    };
-    let workers = thread::available_parallelism().map_or(1, usize::from);
-    thread::scope(|scope| {
-        let started: Vec<_> = (0..workers).map(|_| scope.spawn(work)).collect();
-        // A worker that panicked has counted nothing; the run must not pass without its cases.
-        started.into_iter().for_each(|worker| worker.join().expect("a case makes the tests themselves panic"));
+        tally
     });
-    let mut all = all.into_inner().unwrap_or_else(|poisoned| poisoned.into_inner());
+    let mut all = Tally::default();
+    tallies.into_iter().for_each(|tally| all.add_all(tally));
     all.failures.sort_by_key(|failure| failure.number);
     all
+}
+
+/// Gives the numbers below `count` out to workers, one for each processor; what each of them made of its share.
+pub fn on_all_processors<T: Send>(count: u64, work: impl Fn(&mut dyn Iterator<Item = u64>) -> T + Sync) -> Vec<T> {
+    let next = AtomicU64::new(0);
+    let give_out = || Some(next.fetch_add(1, Ordering::Relaxed)).filter(|number| *number < count);
+    let workers = thread::available_parallelism().map_or(1, usize::from);
+    thread::scope(|scope| {
+        let started: Vec<_> = (0..workers).map(|_| scope.spawn(|| work(&mut iter::from_fn(give_out)))).collect();
+        // A worker that panicked has counted nothing; the run must not pass without its cases.
+        let joined = started.into_iter().map(|worker| worker.join().expect("a case makes the tests themselves panic"));
+        joined.collect()
+    })
 }

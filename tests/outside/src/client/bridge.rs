@@ -3,7 +3,7 @@
 use super::call::{Call, Outcome};
 use crate::program::Program;
 use std::io::{self, Read, Write};
-use std::process::{Child, ChildStdin, ChildStdout, Command, Output, Stdio};
+use std::process::{Child, ChildStdin, ChildStdout, Output};
 
 const WORD_BYTES: usize = 4;
 
@@ -20,13 +20,7 @@ pub struct Bridge {
 impl Bridge {
     /// Starts the program; Err says why it can't be.
     pub fn start(program: &Program) -> Result<Bridge, String> {
-        let mut child = Command::new(&program.file)
-            .args(&program.words)
-            .stdin(Stdio::piped())
-            .stdout(Stdio::piped())
-            .stderr(Stdio::piped())
-            .spawn()
-            .map_err(|error| format!("{}: {error}", program.file))?;
+        let mut child = program.start()?;
         match (child.stdin.take(), child.stdout.take()) {
             (Some(input), Some(output)) => Ok(Bridge { child, input, output }),
             _ => Err(format!("{}: no way to talk to it", program.file)),

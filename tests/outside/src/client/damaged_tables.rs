@@ -1,9 +1,9 @@
 //! Tables with one damaged word: every word of several sound tables, changed in several ways.
 
 use super::call::Call;
-use super::tables::{proper_step, sound_table, Filled};
+use super::tables::{proper_step, sound_tables, Filled};
 use super::worker::Worker;
-use super::Group;
+use crate::group::Group;
 use crate::making::{disturbed, number};
 use crate::random::Random;
 use crate::vector_store::{broken_rule, FiveWords};
@@ -45,8 +45,7 @@ pub struct DamagedTables {
 
 impl DamagedTables {
     pub fn of_seed(seed: u64) -> DamagedTables {
-        let of_sizes = |(number, (sizes, filled))| sound_table(&mut Group::Tables.random(seed, number), sizes, filled);
-        let sound: Vec<Vec<u32>> = (0..).zip(SIZES).map(of_sizes).collect();
+        let sound = sound_tables(seed, 0, &SIZES);
         let damages = damages(&mut Group::Damages.random(seed, 0), &sound);
         DamagedTables { seed, sound, damages }
     }
@@ -70,7 +69,7 @@ impl DamagedTables {
             7 => Call::run(case, table, [step(), step(), step()].concat()),
             _ => Call::step(case, table, step()),
         };
-        worker.holds(&call);
+        worker.try_call(&call);
     }
 }
 

@@ -3,7 +3,7 @@
 use super::call::Call;
 use super::tables::{all_exchanges, busy_steps, fresh_table, proper_step, LARGEST};
 use super::worker::Worker;
-use super::Group;
+use crate::group::Group;
 use crate::random::Random;
 use crate::vector_store::FiveWords;
 
@@ -24,7 +24,7 @@ pub fn try_runs(worker: &mut Worker, seed: u64, case: u64) {
     for (number, length) in (case..).zip(runs) {
         let (first, behind) = rest.split_at(*length as usize);
         rest = behind;
-        match worker.holds(&Call::run(number, table, first.concat())) {
+        match worker.try_call(&Call::run(number, table, first.concat())) {
             Some(outcome) => table = outcome.table,
             None => return,
         }

@@ -3,7 +3,7 @@
 use super::bridge::MOST_WORDS;
 use super::call::Call;
 use super::worker::Worker;
-use super::Group;
+use crate::group::Group;
 use crate::sizes::all_sizes;
 use crate::vector_store::table_words;
 
@@ -39,7 +39,7 @@ pub fn try_making(worker: &mut Worker, seed: u64, case: u64, (sizes, length): ([
     let buffer: Vec<u32> = (0..length).map(|_| random.any() as u32 | 1).collect();
     // An empty one is tried nowhere, too.
     for number in 0..if length == 0 { 3 } else { 2 } {
-        worker.holds(&Call::make(number, sizes, buffer.clone()));
+        worker.try_call(&Call::make(number, sizes, buffer.clone()));
     }
 }
 

@@ -2,8 +2,8 @@
 
 use super::call::{Call, UNWRITTEN};
 use super::worker::Worker;
-use super::Group;
 use crate::coverage::KINDS_AND_CODES;
+use crate::group::Group;
 use crate::making::{disturbed, steps};
 use crate::random::Random;
 use crate::vector_store::{table_words, FiveWords};
@@ -16,13 +16,13 @@ pub fn try_schedule(worker: &mut Worker, seed: u64, case: u64) {
     let (sizes, steps) = schedule(&mut Group::SoundTables.random(seed, case), case);
     let [servers, places, slots] = sizes;
     let filled = vec![UNWRITTEN; table_words(servers, places, slots)];
-    let fresh = match worker.holds(&Call::make(case, sizes, filled)) {
+    let fresh = match worker.try_call(&Call::make(case, sizes, filled)) {
         Some(made) => made.table,
         None => return,
     };
     let mut table = fresh.clone();
     for (number, step) in (case..).zip(&steps) {
-        let outcome = match worker.holds(&Call::step(number, table, *step)) {
+        let outcome = match worker.try_call(&Call::step(number, table, *step)) {
             Some(outcome) => outcome,
             None => return,
         };
@@ -30,7 +30,7 @@ pub fn try_schedule(worker: &mut Worker, seed: u64, case: u64) {
         worker.tally.coverage.note(&format!("kind {} code {}", step[0].min(6), outcome.code));
         table = outcome.table;
     }
-    worker.holds(&Call::run(case, fresh, steps.concat()));
+    worker.try_call(&Call::run(case, fresh, steps.concat()));
     worker.tally.coverage.note(&format!("servers {servers}"));
     worker.tally.coverage.note(&format!("places {places}"));
     worker.tally.coverage.note(&format!("slots {slots}"));

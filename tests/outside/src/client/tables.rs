@@ -1,5 +1,6 @@
 //! Sound tables in use: with open slots, and writes that went from server to server.
 
+use crate::group::Group;
 use crate::random::Random;
 use crate::vector_store::{table_words, FiveWords, Procedures};
 
@@ -34,6 +35,14 @@ pub fn sound_table(random: &mut Random, sizes: [u32; 3], filled: Filled) -> Vec<
         Procedures::default().step_on_sound(&mut table, step);
     }
     table
+}
+
+/// Sound tables of these sizes, each with the random numbers of its own number, from `first` on.
+pub fn sound_tables(seed: u64, first: u64, sizes: &[([u32; 3], Filled)]) -> Vec<Vec<u32>> {
+    let tables = (first..).zip(sizes);
+    tables
+        .map(|(number, (sizes, filled))| sound_table(&mut Group::Tables.random(seed, number), *sizes, *filled))
+        .collect()
 }
 
 /// The steps of a busy day: most slots open, then mostly writes and exchanges, with reads, and agents who come and go.

@@ -4,9 +4,7 @@ use super::bridge::Bridge;
 use super::call::{Call, Outcome};
 use crate::case::Bench;
 use crate::coverage::Coverage;
-use std::sync::atomic::{AtomicU64, Ordering};
-use std::sync::Mutex;
-use std::thread;
+use crate::trials::on_all_processors;
 
 /// A worker that found so many differences tries no more of the group: more would tell the same.
 const MOST_FAILURES: usize = 100;
@@ -34,7 +32,7 @@ impl<'a> Worker<'a> {
     }
 
     /// Makes a call and counts it as one test. What came of it, unless something differs.
-    pub fn holds(&mut self, call: &Call) -> Option<Outcome> {
+    pub fn try_call(&mut self, call: &Call) -> Option<Outcome> {
         match self.came_of(call) {
             Ok(outcome) => {
                 self.tally.passed += 1;
@@ -93,30 +91,19 @@ impl Tally {
 
 /// Tries the cases with the numbers below `count`. What is tried for a number may depend on nothing else.
 pub fn try_all(count: u64, bench: &Bench, try_case: impl Fn(u64, &mut Worker) + Sync) -> Tally {
-    let next = AtomicU64::new(0);
-    let all = Mutex::new(Tally::default());
-    let work = || {
+    let tallies = on_all_processors(count, |cases| {
         let mut worker = Worker::new(bench);
         while worker.tally.failures.len() < MOST_FAILURES {
-            worker.case = next.fetch_add(1, Ordering::Relaxed);
-            if worker.case >= count {
-                break;
+            match cases.next() {
+                Some(case) => worker.case = case,
+                None => break,
             }
             try_case(worker.case, &mut worker);
         }
-        let tally = worker.finish();
-        // Nobody panics while holding it, so it is never poisoned.
-        if let Ok(mut all) = all.lock() {
-            all.add_all(tally);
-        }
-    };
-    let workers = thread::available_parallelism().map_or(1, usize::from);
-    thread::scope(|scope| {
-        let started: Vec<_> = (0..workers).map(|_| scope.spawn(work)).collect();
-        // A worker that panicked has counted nothing; the run must not pass without its cases.
-        started.into_iter().for_each(|worker| worker.join().expect("a case makes the tests themselves panic"));
+        worker.finish()
     });
-    let mut all = all.into_inner().unwrap_or_else(|poisoned| poisoned.into_inner());
+    let mut all = Tally::default();
+    tallies.into_iter().for_each(|tally| all.add_all(tally));
     all.failures.sort();
     all
 }

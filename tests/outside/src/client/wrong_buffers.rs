@@ -3,7 +3,7 @@
 use super::call::{Call, UNWRITTEN};
 use super::tables::{proper_step, sound_table, Filled};
 use super::worker::Worker;
-use super::Group;
+use crate::group::Group;
 use crate::vector_store::FiveWords;
 
 /// A step's answer buffer: five words are right.
@@ -58,7 +58,7 @@ impl WrongBuffers {
 fn try_lengths(worker: &mut Worker, asked: &Call, lengths: &[usize]) {
     for &length in lengths {
         for number in 0..WAYS {
-            worker.holds(&Call { number, answers: vec![UNWRITTEN; length], ..asked.clone() });
+            worker.try_call(&Call { number, answers: vec![UNWRITTEN; length], ..asked.clone() });
         }
     }
 }

@@ -2,9 +2,9 @@
 
 use super::bridge::MOST_WORDS;
 use super::call::Call;
-use super::tables::{proper_step, sound_table, Filled};
+use super::tables::{proper_step, sound_tables, Filled};
 use super::worker::Worker;
-use super::Group;
+use crate::group::Group;
 use crate::vector_store::table_words;
 
 /// The sound tables that lengths and headers are changed of.
@@ -38,8 +38,7 @@ pub struct WrongTables {
 
 impl WrongTables {
     pub fn of_seed(seed: u64) -> WrongTables {
-        let of_sizes = |(number, (sizes, filled))| sound_table(&mut Group::Tables.random(seed, number), sizes, filled);
-        let sound: Vec<Vec<u32>> = (100..).zip(SIZES).map(of_sizes).collect();
+        let sound = sound_tables(seed, 100, &SIZES);
         let mut changes = Vec::new();
         for (table, words) in sound.iter().enumerate() {
             let header = [words[0], words[1], words[2], words[3]];
@@ -67,8 +66,8 @@ impl WrongTables {
         words.resize(change.length, 0);
         let mut random = Group::WrongTables.random(self.seed, case);
         let mut step = |kind| proper_step(&mut random, sizes, 1 + (kind % 5) as u32);
-        worker.holds(&Call::step(case, words.clone(), step(case)));
-        worker.holds(&Call::run(case + 1, words, [step(case + 1), step(case + 2)].concat()));
+        worker.try_call(&Call::step(case, words.clone(), step(case)));
+        worker.try_call(&Call::run(case + 1, words, [step(case + 1), step(case + 2)].concat()));
     }
 }
 

@@ -1,9 +1,9 @@
--- What holds of sets of writes kept as lists in any order: membership, inclusion, what is missing, and the latest clock; and of the
--- write order, where one write is not before another. Assumes nothing.
-use Prim.Native.Nat.{_≤_}
+-- What holds of sets of writes kept as lists in any order: what a read depends on, membership, inclusion, what is missing, and the latest
+-- clock; and of the write order, where one write is not before another. Assumes nothing.
+use Prim.Native.Nat.{ℕ, _≤_}
 use mathlib.Core.Bool.{true, not}
 use mathlib.Core.List.{List, [], _∷_}
-use mathlib.Core.Logic.{_⊎_, inl, inr, ⊎-elim}
+use mathlib.Core.Logic.{_⊎_, inl, inr, ⊎-elim, _↔_}
 use mathlib.Core.Path.{_≡_, refl, sym, _∙_, ap}
 use native.Mathlib.Omega.{arith, max-cases}
 use Rattle.words.specs.Lists.{In, here, there}
@@ -13,7 +13,14 @@ use Rattle.words.specs.TestLaws.{true-not-false, not-true-false, and-left, and-
 use Rattle.logs.specs.Write.{Write, same}
 use Rattle.logs.specs.WriteLaws.{same-true, eq-same}
 use Rattle.logs.specs.Witness.{Timed}
-use Rattle.book.specs.Book.{member, includes, latestClock, missing}
+use Rattle.book.specs.Book.{relevant, member, includes, latestClock, missing}
+
+-- ---- what a read depends on
+
+-- The buyer's third demand: "a read is taken to depend on all that its server held", and on nothing else.
+pub relevant-exactly : (item : ℕ) (holds : List Write) (w : Write) → In w (relevant item holds) ↔ In w holds
+unfolding relevant
+relevant-exactly item holds w = (λ m. m, λ m. m)
 
 -- ---- membership and inclusion
 

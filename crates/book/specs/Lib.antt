@@ -14,4 +14,6 @@ pub mod Moments
 pub mod Accepted
 pub mod Remembering
 pub mod Guarantees
+pub mod Opening
+pub mod Sessions
 pub mod Met

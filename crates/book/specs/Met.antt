@@ -1,7 +1,9 @@
--- The guarantees are not empty: one schedule on which the premises of all four theorems of Guarantees.antt hold. Assumes nothing.
+-- The guarantees are not empty: one schedule on which every premise of the four theorems of Guarantees.antt, and of the four of Sessions.antt,
+-- holds. Assumes nothing.
 use Prim.Native.Nat.{ℕ}
 use mathlib.Core.List.{List, [], _∷_}
-use mathlib.Core.Path.{refl}
+use mathlib.Core.Bool.{true}
+use mathlib.Core.Path.{_≡_, refl}
 use native.Mathlib.Omega.{arith}
 use Rattle.words.specs.Lists.{here, there}
 use Rattle.words.specs.Lists.{keep, first, orElse, blocks, row, part, upd, below}
@@ -21,7 +23,8 @@ use Rattle.rules.specs.Step.{Step, reachInRange, openInRange, closeInRange, rea
 use Rattle.rules.specs.Choice.{readYourWrites, monotonicReads, writesFollowReads, monotonicWrites, upToDateToRead, upToDateToWrite, reaches, startOf, next, onwards, around, choose, hasRoom, upToDate, mayWriteTo}
 use Rattle.rules.specs.Rules.{refuse, newSession, opening, closing, readAnswer, afterRead, readFrom, reading, newWrite, afterWrite, accepted, writeAnswer, writeTo, writing, goingOver, sent, received, exchangeAnswer, exchanging, obeyed, rule}
 use Rattle.rules.specs.Calls.{written, step, onward, walk}
-use Rattle.book.specs.Terms.{database, Stores, after, Reads, Writes, Lasts, Chose}
+use Rattle.book.specs.Book.{relevant}
+use Rattle.book.specs.Terms.{database, Stores, DependsOn, after, Reads, Writes, Opens, Lasts, Chose}
 
 -- Two servers, four places, one slot; a session that chose all four.
 abbrev small : Size
@@ -78,6 +81,10 @@ abbrev at-6 : List ℕ
 at-6 = after at-5 (exchange-back ∷ [])
 
 pub record Met : Type 0 where
+  -- The session is opened with the sum of all four, and lasts to the last read.
+  pub opened : Opens (fresh small) opening-step 0 15
+  pub lasts : Lasts 0 at-1 (write-at-0 ∷ exchange-over ∷ read-at-1 ∷ write-at-1 ∷ exchange-back ∷ [])
+  pub asked : (readYourWrites 15 ≡ true) × (monotonicReads 15 ≡ true) × (writesFollowReads 15 ≡ true) × (monotonicWrites 15 ≡ true)
   -- Read Your Writes: the write at server 0, then the read at server 1.
   pub wrote-first : Writes at-1 write-at-0 0 first-write
   pub lasts-to-read : Lasts 0 at-2 (exchange-over ∷ [])
@@ -87,6 +94,8 @@ pub record Met : Type 0 where
   pub lasts-to-reread : Lasts 0 at-4 (write-at-1 ∷ exchange-back ∷ [])
   pub read-second : Reads at-6 read-at-0 0 0
   pub chose-mr : Chose at-6 0 monotonicReads
+  -- The first of these reads depends on a write, for Monotonic Reads and for Writes Follow Reads.
+  pub depends : DependsOn at-3 read-at-1 1 first-write
   -- Writes Follow Reads: the read at server 1, then the write there. Monotonic Writes: the two writes.
   pub wrote-second : Writes at-4 write-at-1 0 second-write
   pub lasts-to-write : Lasts 0 at-2 (exchange-over ∷ read-at-1 ∷ [])
@@ -96,9 +105,15 @@ pub record Met : Type 0 where
   pub reached : Stores at-6 0 second-write
 
 pub met : Met
-unfolding keep first orElse blocks row part upd below all zeros implies dominates join greatest before same insert insertAll lastOn lacking follow inRange goesOn ordered ofOrigin upTo greatestClock greatestOf sameAll agrees spelled places entry entries within withVector withLog withSlot header vectorAt countAt logAt slotWidth slotAt size headWords slotWords encode sizeOf logPart slotPart sessionOf slotOf decode ruleA ruleB ruleC ruleD ruleE slotSound ruleF soundAt sound fresh reachInRange openInRange closeInRange readInRange writeInRange exchangeInRange ifInRange ofKind asked refused done readYourWrites monotonicReads writesFollowReads monotonicWrites upToDate upToDateToRead upToDateToWrite hasRoom mayWriteTo reaches startOf next onwards around choose refuse newSession opening closing readAnswer afterRead readFrom reading newWrite afterWrite accepted writeAnswer writeTo writing goingOver sent received exchangeAnswer exchanging obeyed rule written step onward walk after database
+unfolding keep first orElse blocks row part upd below all zeros implies dominates join greatest before same insert insertAll lastOn lacking follow inRange goesOn ordered ofOrigin upTo greatestClock greatestOf sameAll agrees spelled places entry entries within withVector withLog withSlot header vectorAt countAt logAt slotWidth slotAt size headWords slotWords encode sizeOf logPart slotPart sessionOf slotOf decode ruleA ruleB ruleC ruleD ruleE slotSound ruleF soundAt sound fresh reachInRange openInRange closeInRange readInRange writeInRange exchangeInRange ifInRange ofKind asked refused done readYourWrites monotonicReads writesFollowReads monotonicWrites upToDate upToDateToRead upToDateToWrite hasRoom mayWriteTo reaches startOf next onwards around choose refuse newSession opening closing readAnswer afterRead readFrom reading newWrite afterWrite accepted writeAnswer writeTo writing goingOver sent received exchangeAnswer exchanging obeyed rule written step onward walk after database relevant
 met =
     record {
+      opened = record { kind = refl; slot = refl; asked = refl; accepted = refl };
+      lasts = (
+        λ c. omega (arith, c .kind),
+        (λ c. omega (arith, c .kind), (λ c. omega (arith, c .kind), (λ c. omega (arith, c .kind), (λ c. omega (arith, c .kind), tt)))),
+      );
+      asked = (refl, refl, refl, refl);
       wrote-first = record { kind = refl; slot = refl; accepted = refl; made = refl };
       lasts-to-read = (λ c. omega (arith, c .kind), tt);
       read-first = record { kind = refl; slot = refl; accepted = refl; server = refl };
@@ -106,6 +121,7 @@ met =
       lasts-to-reread = (λ c. omega (arith, c .kind), (λ c. omega (arith, c .kind), tt));
       read-second = record { kind = refl; slot = refl; accepted = refl; server = refl };
       chose-mr = record { session = _; is = refl; chosen = refl };
+      depends = here refl;
       wrote-second = record { kind = refl; slot = refl; accepted = refl; made = refl };
       lasts-to-write = (λ c. omega (arith, c .kind), (λ c. omega (arith, c .kind), tt));
       chose-wfr = record { session = _; is = refl; chosen = refl };

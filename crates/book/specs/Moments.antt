@@ -1,12 +1,14 @@
 -- From one moment of a schedule to a later one: the states that the tables mean, what servers keep, what a session remembers, and which
 -- write precedes which. Assumes nothing.
 use Prim.Native.Nat.{ℕ}
+use mathlib.Core.Bool.{true}
 use mathlib.Core.List.{List, [], _∷_, _++_}
 use mathlib.Core.Path.{_≡_, sym, _∙_, ap, subst}
 use Rattle.words.specs.Lists.{In}
 use Rattle.logs.specs.Write.{Write}
 use Rattle.tables.specs.Size.{Size}
 use Rattle.tables.specs.State.{Session, opened, State}
+use Rattle.tables.specs.Sound.{sound}
 use Rattle.tables.specs.Meaning.{Means}
 use Rattle.tables.specs.MeaningLaws.{means-state}
 use Rattle.rules.specs.Step.{Step, Answer}
@@ -14,7 +16,7 @@ use Rattle.rules.specs.StepLaws.{asked-inRange, asked-close}
 use Rattle.rules.specs.Rules.{rule}
 use Rattle.rules.specs.SoundKept.{effect-keeps}
 use Rattle.rules.specs.Calls.{onward, walk}
-use Rattle.rules.specs.CallLaws.{step-effect, step-answer, means-next, walk-append}
+use Rattle.rules.specs.CallLaws.{step-effect, step-answer, means-next, walk-append, walk-sound}
 use Rattle.book.specs.Terms.{database, Stores, after, Lasts}
 use Rattle.book.specs.Session.{Still, later-refl, later-trans, effect-still}
 use Rattle.book.specs.Propagation.{Precedes, effect-precedes}
@@ -28,6 +30,11 @@ stateAfter z s (x ∷ xs) = stateAfter z (rule z s x .state) xs
 pub after-append : (t : List ℕ) (xs ys : List Step) → after t (xs ++ ys) ≡ after (after t xs) ys
 unfolding after
 after-append t xs ys = ap (λ w. w .table) (walk-append t xs ys)
+
+-- A schedule keeps a sound table sound.
+pub after-sound : (t : List ℕ) (xs : List Step) → sound t ≡ true → sound (after t xs) ≡ true
+unfolding after
+after-sound = walk-sound
 
 module _ {z : Size} {s : State} {t : List ℕ} (means : Means z s t) where
   -- What the words store is what the state holds.

@@ -23,7 +23,7 @@ use Rattle.rules.specs.Step.{Step}
 use Rattle.rules.specs.Choice.{readYourWrites, monotonicReads, writesFollowReads, monotonicWrites, upToDateToRead, upToDateToWrite, upToDate}
 use Rattle.rules.specs.Rules.{rule}
 use Rattle.rules.specs.Done.{ReadDone, WriteDone}
-use Rattle.book.specs.Book.{relevant}
+use Rattle.book.specs.BookLaws.{relevant-exactly}
 use Rattle.book.specs.Terms.{database, Stores, DependsOn, Reads, Writes, Lasts, Chose}
 use Rattle.book.specs.Session.{Still, Later}
 use Rattle.book.specs.Propagation.{Precedes, accepted-precedes}
@@ -55,11 +55,6 @@ module _ (forReads forWrites : ℕ → Bool) (n : ℕ) (q : Session) (v : ℕ �
 
 -- ---- what a session remembers of a read and of a write
 
--- A read depends on nothing that its server does not hold.
-relevant-held : (item : ℕ) (holds : List Write) (w : Write) → In w (relevant item holds) → In w holds
-unfolding relevant
-relevant-held item holds w m = m
-
 -- Slot k is open and its session covers the write by the vector.
 pub record Remembers (s : State) (k : ℕ) (vector : Session → ℕ → ℕ) (w : Write) : Type 0 where
   pub session : Session
@@ -72,7 +67,7 @@ module _ {z : Size} {s : State} {t : List ℕ} (means : Means z s t) (x : Step) 
   pub read-remembers : (i : ℕ) → Reads t x k i → (w : Write) → DependsOn t x i w → Remembers (rule z s x .state) k (λ q. q .readVector) w
   read-remembers i r w m =
       let d : ReadDone z s k (x .b) (x .c) (step t x .answer) (rule z s x .state) = read-did means x k i r in
-      let holds : In w (s .log i) = stored means i w (relevant-held (x .b) (database t i) w m) in
+      let holds : In w (s .log i) = stored means i w (relevant-exactly (x .b) (database t i) w .0 m) in
       let there : In w (s .log (d .server)) = subst (λ (j : ℕ). In w (s .log j)) (sym (read-at means x k i r)) holds in
       record {
         session = d .next;

@@ -42,6 +42,13 @@ pub record Writes (t : List ℕ) (x : Step) (k : ℕ) (w : Write) : Type 0 where
   pub accepted : step t x .answer .code ≡ 0
   pub made : w ≡ record { origin = step t x .answer .origin; clock = step t x .answer .clock; item = x .b; value = x .c }
 
+-- In the table t, the step x opens slot k and asks for this sum of guarantees.
+pub record Opens (t : List ℕ) (x : Step) (k guarantees : ℕ) : Type 0 where
+  pub kind : x .kind ≡ 1
+  pub slot : x .a ≡ k
+  pub asked : x .b ≡ guarantees
+  pub accepted : step t x .answer .code ≡ 0
+
 -- In the table t, the step x closes slot k.
 pub record Closes (t : List ℕ) (x : Step) (k : ℕ) : Type 0 where
   pub kind : x .kind ≡ 2

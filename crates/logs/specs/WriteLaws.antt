@@ -1,7 +1,7 @@
 -- What holds of the write order and of sameness. Assumes nothing.
 use Prim.Native.Nat.{_<_, _≤_}
 use mathlib.Core.Bool.{true, false, _&&_, _||_}
-use mathlib.Core.Logic.{_⊎_, inl, inr, ⊎-elim}
+use mathlib.Core.Logic.{_⊎_, inl, inr, ⊎-elim, _↔_}
 use mathlib.Core.Path.{_≡_, refl, sym, _∙_, subst, ap₂}
 use native.Mathlib.Omega.{arith}
 use borrow.Author.Tests.{ltb-true, eqb-true, lt-ltb, eq-eqb, ltb-false, eqb-false}
@@ -31,6 +31,10 @@ unfolding before
 before-origin w x e h =
     or-right (ltb (w .clock) (x .clock)) _
     (and-both (eqb (w .clock) (x .clock)) _ (eq-eqb (w .clock) (x .clock) e) (lt-ltb (w .origin) (x .origin) h))
+
+-- 01, "A sound table", c: "by clock, then origin". The rules and the plain book share this order, so it is fixed here in plain terms.
+pub before-exactly : (w x : Write) → (before w x ≡ true) ↔ ((w .clock < x .clock) ⊎ ((w .clock ≡ x .clock) × (w .origin < x .origin)))
+before-exactly w x = (before-cases w x, ⊎-elim (before-clock w x) (λ e. before-origin w x (e .0) (e .1)))
 
 pub before-clock-le : (w x : Write) → before w x ≡ true → w .clock ≤ x .clock
 before-clock-le w x h = ⊎-elim (λ l. omega arith) (λ e. omega (arith, e .0)) (before-cases w x h)
@@ -107,3 +111,7 @@ same-refl w =
 
 pub eq-same : (w x : Write) → w ≡ x → same w x ≡ true
 eq-same w x e = subst (λ (y : Write). same w y ≡ true) e (same-refl w)
+
+-- The test of sameness, which the book and rule e share, passes exactly for one and the same write: all four words.
+pub same-exactly : (w x : Write) → (same w x ≡ true) ↔ (w ≡ x)
+same-exactly w x = (same-true w x, eq-same w x)

@@ -1,11 +1,11 @@
 -- What holds of the search order and of reach. Assumes nothing.
-use Prim.Native.Nat.{ℕ, zero, suc, _+_, _-_, _/_, _%_, _^_, _<_, _≤_}
+use Prim.Native.Nat.{ℕ, zero, suc, _+_, _-_, _*_, _/_, _%_, _^_, _<_, _≤_}
 use mathlib.Core.Bool.{Bool, true, false, _&&_, cond}
 use mathlib.Core.List.{List, [], _∷_, _++_}
 use mathlib.Core.Logic.{⊎-elim}
 use mathlib.Core.Option.{none, some}
 use mathlib.Core.Path.{_≡_, refl, sym, _∙_, ap, ap₂, subst}
-use native.Mathlib.Nat.{pow-succ', div-div-eq-div-mul, div-one, zero-div}
+use native.Mathlib.Nat.{pow-suc, pow-succ', div-div-eq-div-mul, div-one, zero-div, div-eq-of-lt, one-mul, mul-add, mul-one, mul-assoc}
 use native.Mathlib.Omega.{arith}
 use borrow.Author.Tests.{eqb-true, eqb-false, eq-eqb, ne-eqb, ltb-true, lt-ltb}
 use lib.ListN.{length}
@@ -35,6 +35,33 @@ bits g = weight (readYourWrites g) 1 + weight (monotonicReads g) 2 + weight (wri
 pub guarantee-bits : (g : ℕ) → g < sums → g ≡ bits g
 unfolding all bits weight readYourWrites monotonicReads writesFollowReads monotonicWrites
 guarantee-bits g h = eqb-true g (bits g) (all-at sums (λ k. eqb k (bits k)) refl g h)
+
+-- ---- the bits of a reach set
+
+-- The sum of the bits of those servers below n that are in the set, 2 to the power of i for server i.
+unfoldable pub reachBits : ℕ → ℕ → ℕ
+reachBits zero reach = 0
+reachBits (suc n) reach = reachBits n reach + weight (reaches reach n) (2 ^ n)
+
+-- A reach set is the bits of the servers below n and what is left above them.
+reach-digits : (n reach : ℕ) → reach ≡ reachBits n reach + 2 ^ n * (reach / 2 ^ n)
+unfolding reachBits weight reaches
+reach-digits zero reach = omega (arith, one-mul (reach / 2 ^ 0), div-one reach)
+reach-digits (suc n) reach =
+    let q = reach / 2 ^ n in
+    let half : q / 2 ≡ reach / 2 ^ suc n = div-div-eq-div-mul reach (2 ^ n) 2 ∙ ap (λ m. reach / m) (sym (pow-suc 2 n)) in
+    let above : 2 ^ suc n * (reach / 2 ^ suc n) ≡ 2 ^ n * (2 * (reach / 2 ^ suc n)) =
+    ap (λ m. m * (reach / 2 ^ suc n)) (pow-suc 2 n) ∙ mul-assoc (2 ^ n) 2 (reach / 2 ^ suc n) in
+    let bit : (d : ℕ) → q ≡ 2 * (reach / 2 ^ suc n) + d → 2 ^ n * q ≡ 2 ^ n * (2 * (reach / 2 ^ suc n)) + 2 ^ n * d =
+    λ d e. ap (λ m. 2 ^ n * m) e ∙ mul-add (2 ^ n) (2 * (reach / 2 ^ suc n)) d in
+    cond-elim (λ (w : ℕ). reach ≡ reachBits n reach + w + 2 ^ suc n * (reach / 2 ^ suc n)) (eqb (q % 2) 1)
+    (λ t. omega (arith, reach-digits n reach, above, bit 1 (omega (arith, half, eqb-true (q % 2) 1 t)), mul-one (2 ^ n)))
+    (λ t. omega (arith, reach-digits n reach, above, bit 0 (omega (arith, half, eqb-false (q % 2) 1 t))))
+
+-- 01, "Steps": "Reach is a bit set of servers, bit i for server i". A set of servers below n is the sum of the bits of its servers; the
+-- rules and the plain book share this reading, so it is fixed here in plain terms.
+pub reach-bits : (n reach : ℕ) → reach < 2 ^ n → reach ≡ reachBits n reach
+reach-bits n reach l = omega (arith, reach-digits n reach, ap (λ m. 2 ^ n * m) (div-eq-of-lt l))
 
 -- ---- the search order
 

@@ -54,9 +54,32 @@ pub record NoRoom (z : Size) (s : State) (k reach : ℕ) : Type 0 where
 pub data Full (z : Size) (s : State) : Op → Type 0 where
   writes-full : {k item value reach : ℕ} → NoRoom z s k reach → Full z s (writes k item value reach)
 
+-- 0: "done". Said by itself, kind by kind, and not as what is left when no refusal applies. A read or a write has a session to serve, and a
+-- reachable server that passes the check (01, "Up to date", "Choice");
+pub record ServedBy (z : Size) (s : State) (passes : Session → ℕ → Bool) (k reach : ℕ) : Type 0 where
+  pub session : Session
+  pub is : s .slot k ≡ opened session
+  pub server : ℕ
+  pub below : server < z .n
+  pub reachable : reaches reach server ≡ true
+  pub passed : passes session server ≡ true
+
+-- for a write the server "must also have a free place".
+pub record TakenBy (z : Size) (s : State) (k reach : ℕ) : Type 0 where
+  pub served : ServedBy z s (upToDateToWrite z s) k reach
+  pub free : length (s .log (served .server)) < z .l
+
+-- An open finds its slot closed, a close finds it open, and an exchange goes from one server to another.
+pub data Accepted (z : Size) (s : State) : Op → Type 0 where
+  opens-closed : {k g : ℕ} → s .slot k ≡ closed → Accepted z s (opens k g)
+  closes-open : {k : ℕ} (q : Session) → s .slot k ≡ opened q → Accepted z s (closes k)
+  reads-served : {k item reach : ℕ} → ServedBy z s (upToDateToRead z s) k reach → Accepted z s (reads k item reach)
+  writes-taken : {k item value reach : ℕ} → TakenBy z s k reach → Accepted z s (writes k item value reach)
+  exchanges-apart : {source target most : ℕ} → (source ≡ target → ⊥) → Accepted z s (exchanges source target most)
+
 -- The table of codes: what must hold for the code. A code that no row of the table has is not given.
 abbrev pub Given : Size → State → Op → ℕ → Type 0
-Given z s o zero = Unit {0}
+Given z s o zero = Accepted z s o
 Given z s o (suc zero) = ⊥
 Given z s o (suc (suc zero)) = OutOfRange o
 Given z s o (suc (suc (suc zero))) = WrongSlot s o

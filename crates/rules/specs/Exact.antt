@@ -24,7 +24,7 @@ use Rattle.rules.specs.Choice.{reaches, upToDateToRead, upToDateToWrite}
 use Rattle.rules.specs.ChoiceLaws.{reach-some, reach-none}
 use Rattle.rules.specs.Rules.{rule}
 use Rattle.rules.specs.Effects.{Effect}
-use Rattle.rules.specs.Codes.{Given, NoneReachable, BehindBy, Behind, reads-behind, writes-behind, Full, OutOfRange, out-of-range, WrongSlot, ToItself}
+use Rattle.rules.specs.Codes.{Given, Accepted, NoneReachable, BehindBy, Behind, reads-behind, writes-behind, Full, OutOfRange, out-of-range, WrongSlot, ToItself}
 use Rattle.rules.specs.CodeLaws.{code-exactly}
 use Rattle.rules.specs.Done.{OpenDone, CloseDone, ReadDone, WriteDone, ExchangeDone}
 use Rattle.rules.specs.DoneLaws.{state-follows, open-done, close-done, read-done, write-done, exchange-done}
@@ -38,27 +38,32 @@ pub unsound-exactly : (t : List ℕ) (x : Step) → (step t x .answer .code ≡ 
 unfolding refused
 unsound-exactly t x = (λ e. not-true-false (sound t) (λ h. step-not-1 t x h e), λ h. ap (λ o. o .answer .code) (step-unsound t x h))
 
--- 2 to 7: each is given exactly if the table is sound and the code's condition holds of its state.
-pub given-exactly : (t : List ℕ) (x : Step) (c : ℕ) → 2 ≤ c
+-- Every other code is given exactly if the table is sound and the code's condition holds of its state.
+pub given-exactly : (t : List ℕ) (x : Step) (c : ℕ) → (c ≡ 1 → ⊥)
     → (step t x .answer .code ≡ c) ↔ ((sound t ≡ true) × Given (sizeOf t) (decode (sizeOf t) t) (asked (sizeOf t) x) c)
 unfolding refused rule
 given-exactly t x c l = (
   λ e. ⊎-elim (λ h. (h, by-rules t x h c l .0 (ap (λ r. r .code) (sym (step-answer (sound-means t h) x)) ∙ e)))
-      (λ h. absurd (omega (arith, ap (λ o. o .answer .code) (step-unsound t x h)))) (either (sound t)),
+      (λ h. absurd (l (sym e ∙ ap (λ o. o .answer .code) (step-unsound t x h)))) (either (sound t)),
   λ g. ap (λ r. r .code) (step-answer (sound-means t (g .0)) x) ∙ by-rules t x (g .0) c l .1 (g .1),
 )
   where
-    by-rules : (t : List ℕ) (x : Step) → sound t ≡ true → (c : ℕ) → 2 ≤ c
+    by-rules : (t : List ℕ) (x : Step) → sound t ≡ true → (c : ℕ) → (c ≡ 1 → ⊥)
         → (rule (sizeOf t) (decode (sizeOf t) t) x .answer .code ≡ c) ↔ Given (sizeOf t) (decode (sizeOf t) t) (asked (sizeOf t) x) c
     by-rules t x h c l =
         let means : Means (sizeOf t) (decode (sizeOf t) t) t = sound-means t h in
         code-exactly (sizeOf t) (decode (sizeOf t) t) (within-server (sizeOf t) (means .limits)) (means .state) (asked (sizeOf t) x) c l
 
+-- 0: "done".
+pub done-exactly : (t : List ℕ) (x : Step)
+    → (step t x .answer .code ≡ 0) ↔ ((sound t ≡ true) × Accepted (sizeOf t) (decode (sizeOf t) t) (asked (sizeOf t) x))
+done-exactly t x = given-exactly t x 0 (λ e. omega arith)
+
 -- 2: "kind, slot, server, item, guarantees, reach or unused word out of range": exactly if the step is not proper.
 pub range-exactly : (t : List ℕ) (x : Step) → (step t x .answer .code ≡ 2) ↔ ((sound t ≡ true) × (Proper (sizeOf t) x → ⊥))
 range-exactly t x = (
-  λ e. let g = given-exactly t x 2 (omega arith) .0 e in (g .0, bad-exactly (sizeOf t) x .0 (is-bad (asked (sizeOf t) x) (g .1))),
-  λ h. given-exactly t x 2 (omega arith) .1 (h .0, subst OutOfRange (sym (bad-exactly (sizeOf t) x .1 (h .1))) out-of-range),
+  λ e. let g = given-exactly t x 2 (λ e. omega arith) .0 e in (g .0, bad-exactly (sizeOf t) x .0 (is-bad (asked (sizeOf t) x) (g .1))),
+  λ h. given-exactly t x 2 (λ e. omega arith) .1 (h .0, subst OutOfRange (sym (bad-exactly (sizeOf t) x .1 (h .1))) out-of-range),
 )
   where
     is-bad : (o : Op) → OutOfRange o → o ≡ bad
@@ -67,26 +72,26 @@ range-exactly t x = (
 -- 3: "open of an open slot; close, read or write on a closed one".
 pub slot-exactly : (t : List ℕ) (x : Step)
     → (step t x .answer .code ≡ 3) ↔ ((sound t ≡ true) × WrongSlot (decode (sizeOf t) t) (asked (sizeOf t) x))
-slot-exactly t x = given-exactly t x 3 (omega arith)
+slot-exactly t x = given-exactly t x 3 (λ e. omega arith)
 
 -- 4: "exchange from a server to itself".
 pub itself-exactly : (t : List ℕ) (x : Step) → (step t x .answer .code ≡ 4) ↔ ((sound t ≡ true) × ToItself (asked (sizeOf t) x))
-itself-exactly t x = given-exactly t x 4 (omega arith)
+itself-exactly t x = given-exactly t x 4 (λ e. omega arith)
 
 -- 5: "reach is 0".
 pub none-reachable-exactly : (t : List ℕ) (x : Step)
     → (step t x .answer .code ≡ 5) ↔ ((sound t ≡ true) × NoneReachable (decode (sizeOf t) t) (asked (sizeOf t) x))
-none-reachable-exactly t x = given-exactly t x 5 (omega arith)
+none-reachable-exactly t x = given-exactly t x 5 (λ e. omega arith)
 
 -- 6: "behind: reach isn't 0 and no reachable server is up to date".
 pub behind-exactly : (t : List ℕ) (x : Step)
     → (step t x .answer .code ≡ 6) ↔ ((sound t ≡ true) × Behind (sizeOf t) (decode (sizeOf t) t) (asked (sizeOf t) x))
-behind-exactly t x = given-exactly t x 6 (omega arith)
+behind-exactly t x = given-exactly t x 6 (λ e. omega arith)
 
 -- 7: "full: some reachable server is up to date, none such has a free place".
 pub full-exactly : (t : List ℕ) (x : Step)
     → (step t x .answer .code ≡ 7) ↔ ((sound t ≡ true) × Full (sizeOf t) (decode (sizeOf t) t) (asked (sizeOf t) x))
-full-exactly t x = given-exactly t x 7 (omega arith)
+full-exactly t x = given-exactly t x 7 (λ e. omega arith)
 
 -- The buyer's second demand: "To an otherwise proper call, "behind" is given exactly when some server is reachable and no reachable server
 -- passes the check." Proper: the table is sound, the arguments are in range, and the slot is open.

@@ -16,4 +16,5 @@ pub mod RunLaws
 pub mod Done
 pub mod DoneLaws
 pub mod Exact
+pub mod Acceptance
 pub mod Rows

@@ -1,7 +1,7 @@
 -- What is known of a step that is in range. Assumes nothing.
 use Prim.Native.Nat.{_≤_, ℕ, _<_, _/_, _^_}
 use mathlib.Core.Bool.{Bool, true, cond}
-use mathlib.Core.Logic.{_⊎_, inl, inr, _↔_}
+use mathlib.Core.Logic.{_⊎_, inl, inr, ⊎-elim, _↔_}
 use mathlib.Core.Path.{_≡_, refl, ap, _∙_, subst}
 use native.Mathlib.Nat.{one-mul, div-lt-iff-lt-mul, div-eq-of-lt}
 use native.Mathlib.Omega.{arith}
@@ -104,17 +104,17 @@ reach-below n reach = (
 )
 
 module _ (z : Size) (x : Step) where
-  -- What is not proper is bad.
-  pub improper-bad : (Proper z x → ⊥) → asked z x ≡ bad
+  -- A step is proper or asks for nothing.
+  pub proper-or-bad : Proper z x ⊎ (asked z x ≡ bad)
   unfolding openInRange closeInRange readInRange writeInRange exchangeInRange
-  improper-bad h =
-      by-kind z x (λ o. o ≡ bad)
-      (λ k g. absurd (h (proper-open k (ltb-true _ _ (search and-left)) (omega (arith, ltb-true (x .b) sums (search (and-left, and-right)))) (eqb-true _ _ (search (and-left, and-right))) (eqb-true _ _ (search (and-left, and-right))))))
-      (λ k g. absurd (h (proper-close k (ltb-true _ _ (search and-left)) (eqb-true _ _ (search (and-left, and-right))) (eqb-true _ _ (search (and-left, and-right))) (eqb-true _ _ (search (and-left, and-right))))))
-      (λ k g. absurd (h (proper-read k (ltb-true _ _ (search and-left)) (omega (arith, ltb-true (x .b) items (search (and-left, and-right)))) (reach-below (z .n) (x .c) .0 (search (and-left, and-right))) (eqb-true _ _ (search (and-left, and-right))))))
-      (λ k g. absurd (h (proper-write k (ltb-true _ _ (search and-left)) (omega (arith, ltb-true (x .b) items (search (and-left, and-right)))) (reach-below (z .n) (x .d) .0 (search (and-left, and-right))))))
-      (λ k g. absurd (h (proper-exchange k (ltb-true _ _ (search and-left)) (ltb-true _ _ (search (and-left, and-right))) (eqb-true _ _ (search (and-left, and-right))))))
-      refl
+  proper-or-bad =
+      by-kind z x (λ o. Proper z x ⊎ (o ≡ bad))
+      (λ k g. inl (proper-open k (ltb-true _ _ (search and-left)) (omega (arith, ltb-true (x .b) sums (search (and-left, and-right)))) (eqb-true _ _ (search (and-left, and-right))) (eqb-true _ _ (search (and-left, and-right)))))
+      (λ k g. inl (proper-close k (ltb-true _ _ (search and-left)) (eqb-true _ _ (search (and-left, and-right))) (eqb-true _ _ (search (and-left, and-right))) (eqb-true _ _ (search (and-left, and-right)))))
+      (λ k g. inl (proper-read k (ltb-true _ _ (search and-left)) (omega (arith, ltb-true (x .b) items (search (and-left, and-right)))) (reach-below (z .n) (x .c) .0 (search (and-left, and-right))) (eqb-true _ _ (search (and-left, and-right)))))
+      (λ k g. inl (proper-write k (ltb-true _ _ (search and-left)) (omega (arith, ltb-true (x .b) items (search (and-left, and-right)))) (reach-below (z .n) (x .d) .0 (search (and-left, and-right)))))
+      (λ k g. inl (proper-exchange k (ltb-true _ _ (search and-left)) (ltb-true _ _ (search (and-left, and-right))) (eqb-true _ _ (search (and-left, and-right)))))
+      (inr refl)
 
   -- A proper step is asked for as it stands, kind by kind.
   pub serves-open : x .kind ≡ 1 → x .a < z .p → x .b ≤ 15 → x .c ≡ 0 → x .d ≡ 0 → asked z x ≡ opens (x .a) (x .b)
@@ -151,7 +151,7 @@ module _ (z : Size) (x : Step) where
       ∙ cond-true (exchangeInRange z x) _ _ (and-both _ _ (lt-ltb _ _ a) (and-both _ _ (lt-ltb _ _ b) (eq-eqb _ _ d)))
 
   -- What is asked for is not bad.
-  proper-asked : Proper z x → asked z x ≡ bad → ⊥
+  pub proper-asked : Proper z x → asked z x ≡ bad → ⊥
   proper-asked (proper-open k a b c d) e = never (cc (serves-open k a b c d))
   proper-asked (proper-close k a b c d) e = never (cc (serves-close k a b c d))
   proper-asked (proper-read k a b c d) e = never (cc (serves-read k a b c d))
@@ -160,4 +160,4 @@ module _ (z : Size) (x : Step) where
 
   -- Code 2, of the words: a step is out of range exactly if it is not proper.
   pub bad-exactly : (asked z x ≡ bad) ↔ (Proper z x → ⊥)
-  bad-exactly = (λ e p. proper-asked p e, improper-bad)
+  bad-exactly = (λ e p. proper-asked p e, λ h. ⊎-elim (λ p. absurd (h p)) (λ e. e) proper-or-bad)

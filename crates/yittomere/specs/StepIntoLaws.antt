@@ -40,7 +40,7 @@ module _ (t : List ℕ) (x : Step) (buffer : List ℕ) where
   -- 8 exactly if the buffer's length is not five: no step has this code.
   pub stepInto-8-exactly : (stepInto t x buffer .code ≡ 8) ↔ (length buffer ≡ 5 → ⊥)
   stepInto-8-exactly = (
-    λ e h. given-exactly t x 8 (omega arith) .0 (sym (ap (λ r. r .code) (stepInto-fits h)) ∙ e) .1,
+    λ e h. given-exactly t x 8 (λ n. omega arith) .0 (sym (ap (λ r. r .code) (stepInto-fits h)) ∙ e) .1,
     λ h. ap (λ r. r .code) (stepInto-misfits h),
   )
 

@@ -1,5 +1,5 @@
--- The outcome of a search as the code answers it, with 01's numbers, and the verdict on each server from which it is made. What it is to
--- be, `found`, is said by the rules' own two searches. Assumes nothing.
+-- The outcome of a search as the code answers it, with 01's numbers and values, and the verdict on each server from which it is made. What
+-- it is to be, `found`, is said by the rules' own two searches. Assumes nothing.
 use Prim.Native.Nat.{ℕ, _<_, max}
 use mathlib.Core.Bool.{Bool, true, false, cond, _&&_}
 use mathlib.Core.List.{List, [], _∷_}
@@ -17,20 +17,25 @@ use Rattle.rules.specs.Choice.{upToDateToRead, upToDateToWrite, hasRoom, mayWri
 use Rattle.choice.specs.declared.Choice.{Choice}
 use Rattle.choice.specs.declared.Choice.the-variants.{At, Behind, Full}
 
--- ---- the enum's numbers
+-- ---- the enum's numbers and values
 
--- 01, "Answer codes": 0 done; 6 "behind"; 7 "full".
-unfoldable pub codeOf : Choice → ℕ
-codeOf (At i) = 0
-codeOf Behind = 6
-codeOf Full = 7
+-- A code, and the server beside it.
+pub record Valued : Type 0 where
+  pub code : ℕ
+  pub server : ℕ
+
+-- 01, "Answer codes": 0 done, at the server chosen; 6 "behind" and 7 "full", each with a zero beside it, as in every refusal.
+unfoldable pub valueOf : Choice → Valued
+valueOf (At i) = record { code = 0; server = i }
+valueOf Behind = record { code = 6; server = 0 }
+valueOf Full = record { code = 7; server = 0 }
 
 -- What two searches found, for a server that is up to date and for one that serves besides (for a write it "must also have a free
--- place"): 6 if none is up to date, 7 if none such serves, else the second one's server.
-unfoldable pub outcome : Option ℕ → Option ℕ → Choice
-outcome none serving = Behind
-outcome (some i) none = Full
-outcome (some i) (some j) = At j
+-- place"): 6 if none is up to date, 7 if none such serves, else 0 and the second one's server.
+unfoldable pub outcome : Option ℕ → Option ℕ → Valued
+outcome none serving = record { code = 6; server = 0 }
+outcome (some i) none = record { code = 7; server = 0 }
+outcome (some i) (some j) = record { code = 0; server = j }
 
 -- Who is up to date, and who serves, for a write or for a read.
 unfoldable pub upToDateTo : Bool → Size → State → Session → ℕ → Bool
@@ -42,7 +47,7 @@ serves true = mayWriteTo
 serves false = upToDateToRead
 
 -- The outcome of the rules' searches.
-unfoldable pub found : Bool → Size → State → Session → ℕ → Choice
+unfoldable pub found : Bool → Size → State → Session → ℕ → Valued
 found writing z s q reach =
     outcome (choose (z .n) (startOf q) reach (upToDateTo writing z s q)) (choose (z .n) (startOf q) reach (serves writing z s q))
 

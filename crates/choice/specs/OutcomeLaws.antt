@@ -1,4 +1,4 @@
--- The search in the loop's order finds what the rules' two searches find. Assumes nothing.
+-- The search in the loop's order finds what the rules' two searches find, and that is what the rules answer. Assumes nothing.
 use Prim.Native.Nat.{ℕ, suc, max, _+_, _-_, _<_, _/_, _%_, _^_}
 use mathlib.Core.Bool.{Bool, true, false, cond, _&&_}
 use mathlib.Core.List.{List, [], _∷_}
@@ -13,13 +13,13 @@ use Rattle.words.specs.TestLaws.{cond-true, cond-false, cond-elim, and-both}
 use Rattle.tables.specs.Size.{Size}
 use Rattle.tables.specs.State.{State, Session}
 use Rattle.rules.specs.Choice.{upToDateToRead, upToDateToWrite, hasRoom, mayWriteTo, reaches, startOf, next, onwards, around, choose}
+use Rattle.logs.specs.Write.{Write}
 use Rattle.logs.specs.Log.{lastOn}
-use Rattle.rules.specs.Step.{refused}
-use Rattle.rules.specs.Rules.{refuse, readFrom, writeAnswer, writeTo}
-use Rattle.rules.specs.CodeLaws.{read-code}
+use Rattle.rules.specs.Step.{Answer, refused}
+use Rattle.rules.specs.Rules.{refuse, readAnswer, readFrom, writeAnswer, writeTo}
 use Rattle.choice.specs.declared.Choice.{Choice}
 use Rattle.choice.specs.declared.Choice.the-variants.{At, Behind, Full}
-use Rattle.choice.specs.Outcome.{codeOf, outcome, upToDateTo, serves, found, readVerdict, writeVerdict, verdictTo, verdict, ofWorst, searched}
+use Rattle.choice.specs.Outcome.{Valued, valueOf, outcome, upToDateTo, serves, found, readVerdict, writeVerdict, verdictTo, verdict, ofWorst, searched}
 
 -- A verdict on a server, by whether it is up to date and whether it serves.
 pub data Judged (upToDate serving : Bool) : ℕ → Type 0 where
@@ -31,28 +31,28 @@ pub data Judged (upToDate serving : Bool) : ℕ → Type 0 where
 
 module _ (upToDate serving : ℕ → Bool) (verdictOn : ℕ → ℕ) (judged : (i : ℕ) → Judged (upToDate i) (serving i) (verdictOn i)) where
   -- Once some server is up to date, only who serves counts.
-  searched-full : (i : ℕ) (xs : List ℕ) → searched verdictOn 7 xs ≡ outcome (some i) (first serving xs)
-  unfolding searched outcome first ofWorst
+  searched-full : (i : ℕ) (xs : List ℕ) → valueOf (searched verdictOn 7 xs) ≡ outcome (some i) (first serving xs)
+  unfolding searched valueOf outcome first ofWorst
   searched-full i [] = refl
   searched-full i (x ∷ xs) = go (judged x) (searched-full i xs)
     where
       go : {v : ℕ} → Judged (upToDate x) (serving x) v
-          → searched verdictOn 7 xs ≡ outcome (some i) (first serving xs)
-          → cond (eqb v 0) (At x) (searched verdictOn (max 7 v) xs) ≡ outcome (some i) (cond (serving x) (some x) (first serving xs))
+          → valueOf (searched verdictOn 7 xs) ≡ outcome (some i) (first serving xs)
+          → valueOf (cond (eqb v 0) (At x) (searched verdictOn (max 7 v) xs)) ≡ outcome (some i) (cond (serving x) (some x) (first serving xs))
       go (serves-it c p) rest = ap (outcome (some i)) (sym (cond-true (serving x) _ _ p))
       go (is-full c p) rest = rest ∙ ap (outcome (some i)) (sym (cond-false (serving x) _ _ p))
       go (is-behind c p) rest = rest ∙ ap (outcome (some i)) (sym (cond-false (serving x) _ _ p))
 
   -- From the start, the two searches.
-  pub searched-outcome : (xs : List ℕ) → searched verdictOn 6 xs ≡ outcome (first upToDate xs) (first serving xs)
-  unfolding searched outcome first ofWorst
+  pub searched-outcome : (xs : List ℕ) → valueOf (searched verdictOn 6 xs) ≡ outcome (first upToDate xs) (first serving xs)
+  unfolding searched valueOf outcome first ofWorst
   searched-outcome [] = refl
   searched-outcome (x ∷ xs) = go (judged x) (searched-outcome xs) (searched-full x xs)
     where
       go : {v : ℕ} → Judged (upToDate x) (serving x) v
-          → searched verdictOn 6 xs ≡ outcome (first upToDate xs) (first serving xs)
-          → searched verdictOn 7 xs ≡ outcome (some x) (first serving xs)
-          → cond (eqb v 0) (At x) (searched verdictOn (max 6 v) xs)
+          → valueOf (searched verdictOn 6 xs) ≡ outcome (first upToDate xs) (first serving xs)
+          → valueOf (searched verdictOn 7 xs) ≡ outcome (some x) (first serving xs)
+          → valueOf (cond (eqb v 0) (At x) (searched verdictOn (max 6 v) xs))
           ≡ outcome (cond (upToDate x) (some x) (first upToDate xs)) (cond (serving x) (some x) (first serving xs))
       go (serves-it c p) rest full = ap₂ outcome (sym (cond-true (upToDate x) _ _ c)) (sym (cond-true (serving x) _ _ p))
       go (is-full c p) rest full = full ∙ ap₂ outcome (sym (cond-true (upToDate x) _ _ c)) (sym (cond-false (serving x) _ _ p))
@@ -88,42 +88,63 @@ module _ (z : Size) (s : State) (q : Session) (reach : ℕ) where
   verdict-judged writing i = judged-reach (reaches reach i) (judged-to writing i)
 
   -- The search in the loop's order finds what the rules find.
-  pub found-searched : (writing : Bool) → found writing z s q reach ≡ searched (verdict writing z s q reach) 6 (onwards (z .n) (z .n) (startOf q))
+  pub found-searched : (writing : Bool) → found writing z s q reach ≡ valueOf (searched (verdict writing z s q reach) 6 (onwards (z .n) (z .n) (startOf q)))
   unfolding found choose around
   found-searched writing = sym (searched-outcome _ _ (verdict writing z s q reach) (verdict-judged writing) (around (z .n) (startOf q)))
 
   -- The search starts at the last-used server.
   pub search-starts : (writing : Bool) {i : ℕ} → i ≡ startOf q → startOf q < z .n
-      → (i < z .n) × (found writing z s q reach ≡ searched (verdict writing z s q reach) 6 (onwards (z .n) (z .n) i))
+      → (i < z .n) × (found writing z s q reach ≡ valueOf (searched (verdict writing z s q reach) 6 (onwards (z .n) (z .n) i)))
   search-starts writing e l = (
     omega arith,
-    found-searched writing ∙ ap (λ i. searched (verdict writing z s q reach) 6 (onwards (z .n) (z .n) i)) (sym e),
+    found-searched writing ∙ ap (λ i. valueOf (searched (verdict writing z s q reach) 6 (onwards (z .n) (z .n) i))) (sym e),
   )
 
--- ---- the enum's number is the code of the rules' answer
+-- ---- the enum's number and value are those of the rules' answer
+
+-- The code and the server of an answer.
+abbrev answered : Answer → Valued
+answered r = record { code = r .code; server = r .server }
 
 -- Of a read, whatever is read of whichever slot,
-pub read-code-is : (z : Size) (s : State) (q : Session) (reach k item : ℕ)
-    → readFrom s k item q (choose (z .n) (startOf q) reach (upToDateToRead z s q)) .answer .code ≡ codeOf (found false z s q reach)
-unfolding found upToDateTo serves codeOf outcome readFrom refuse refused
-read-code-is z s q reach k item = go (choose (z .n) (startOf q) reach (upToDateToRead z s q))
+pub read-answered : (z : Size) (s : State) (q : Session) (reach k item : ℕ)
+    → answered (readFrom s k item q (choose (z .n) (startOf q) reach (upToDateToRead z s q)) .answer) ≡ found false z s q reach
+unfolding found upToDateTo serves outcome readFrom readAnswer refuse refused
+read-answered z s q reach k item = go (choose (z .n) (startOf q) reach (upToDateToRead z s q))
   where
-    go : (o : Option ℕ) → readFrom s k item q o .answer .code ≡ codeOf (outcome o o)
+    shown : (i : ℕ) (last : Option Write) → answered (readAnswer i last) ≡ record { code = 0; server = i }
+    shown i none = refl
+    shown i (some w) = refl
+
+    go : (o : Option ℕ) → answered (readFrom s k item q o .answer) ≡ outcome o o
     go none = refl
-    go (some i) = read-code i (lastOn item (s .log i))
+    go (some i) = shown i (lastOn item (s .log i))
 
 -- and of a write.
-pub write-code-is : (z : Size) (s : State) (q : Session) (reach k item value : ℕ)
-    → writeTo z s k item value q (choose (z .n) (startOf q) reach (upToDateToWrite z s q)) (choose (z .n) (startOf q) reach (mayWriteTo z s q)) .answer .code
-    ≡ codeOf (found true z s q reach)
-unfolding found upToDateTo serves codeOf outcome writeTo refuse refused writeAnswer
-write-code-is z s q reach k item value =
+pub write-answered : (z : Size) (s : State) (q : Session) (reach k item value : ℕ)
+    → answered (writeTo z s k item value q (choose (z .n) (startOf q) reach (upToDateToWrite z s q)) (choose (z .n) (startOf q) reach (mayWriteTo z s q)) .answer)
+    ≡ found true z s q reach
+unfolding found upToDateTo serves outcome writeTo refuse refused writeAnswer
+write-answered z s q reach k item value =
     go (choose (z .n) (startOf q) reach (upToDateToWrite z s q)) (choose (z .n) (startOf q) reach (mayWriteTo z s q))
   where
-    go : (o r : Option ℕ) → writeTo z s k item value q o r .answer .code ≡ codeOf (outcome o r)
+    go : (o r : Option ℕ) → answered (writeTo z s k item value q o r .answer) ≡ outcome o r
     go none r = refl
     go (some i) none = refl
     go (some i) (some j) = refl
+
+-- Number and value tell the enum's cases apart: two results of one search are equal.
+pub valueOf-settled : (c d : Choice) → valueOf c ≡ valueOf d → c ≡ d
+unfolding valueOf
+valueOf-settled (At i) (At j) e = ap At (ap (λ v. v .server) e)
+valueOf-settled Behind Behind e = refl
+valueOf-settled Full Full e = refl
+valueOf-settled (At i) Behind e = absurd (omega (arith, ap (λ v. v .code) e))
+valueOf-settled (At i) Full e = absurd (omega (arith, ap (λ v. v .code) e))
+valueOf-settled Behind (At j) e = absurd (omega (arith, ap (λ v. v .code) e))
+valueOf-settled Behind Full e = absurd (omega (arith, ap (λ v. v .code) e))
+valueOf-settled Full (At j) e = absurd (omega (arith, ap (λ v. v .code) e))
+valueOf-settled Full Behind e = absurd (omega (arith, ap (λ v. v .code) e))
 
 -- ---- in reach or not
 
@@ -168,26 +189,26 @@ module _ (n i : ℕ) where
 
 -- ---- one turn of the loop
 
-module _ (verdictOn : ℕ → ℕ) (worst n left i : ℕ) {result : Choice} (so : result ≡ searched verdictOn worst (onwards n left i)) where
+module _ (verdictOn : ℕ → ℕ) (worst n left i : ℕ) {result : Valued} (so : result ≡ valueOf (searched verdictOn worst (onwards n left i))) where
   -- No server is left.
-  pub search-ends : left ≡ 0 → result ≡ ofWorst worst
+  pub search-ends : left ≡ 0 → result ≡ valueOf (ofWorst worst)
   unfolding searched onwards
-  search-ends e = so ∙ ap (λ m. searched verdictOn worst (onwards n m i)) e
+  search-ends e = so ∙ ap (λ m. valueOf (searched verdictOn worst (onwards n m i))) e
 
-  search-turn : (0 < left) → result ≡ cond (eqb (verdictOn i) 0) (At i) (searched verdictOn (max worst (verdictOn i)) (onwards n (left - 1) (next n i)))
+  search-turn : (0 < left) → result ≡ valueOf (cond (eqb (verdictOn i) 0) (At i) (searched verdictOn (max worst (verdictOn i)) (onwards n (left - 1) (next n i))))
   unfolding searched onwards
   search-turn l =
       let e : left ≡ suc (left - 1) = omega arith in
-      so ∙ ap (λ m. searched verdictOn worst (onwards n m i)) e
+      so ∙ ap (λ m. valueOf (searched verdictOn worst (onwards n m i))) e
 
   -- This one serves.
-  pub search-found : 0 < left → verdictOn i ≡ 0 → result ≡ At i
-  search-found l e = search-turn l ∙ cond-true (eqb (verdictOn i) 0) _ _ (eq-eqb (verdictOn i) 0 e)
+  pub search-found : 0 < left → verdictOn i ≡ 0 → result ≡ valueOf (At i)
+  search-found l e = search-turn l ∙ ap valueOf (cond-true (eqb (verdictOn i) 0) _ _ (eq-eqb (verdictOn i) 0 e))
 
   -- This one does not: on to the next.
   pub search-on : {v worse′ next′ : ℕ} → 0 < left → v ≡ verdictOn i → (v ≡ 0 → ⊥) → worse′ ≡ max worst v → next′ ≡ next n i
-      → result ≡ searched verdictOn worse′ (onwards n (left - 1) next′)
+      → result ≡ valueOf (searched verdictOn worse′ (onwards n (left - 1) next′))
   search-on {v} l e differs w m =
       search-turn l
-      ∙ (cond-false (eqb (verdictOn i) 0) _ _ (ne-eqb (verdictOn i) 0 (λ q. differs (e ∙ q)))
+      ∙ ap valueOf (cond-false (eqb (verdictOn i) 0) _ _ (ne-eqb (verdictOn i) 0 (λ q. differs (e ∙ q)))
       ∙ ap₂ (λ a b. searched verdictOn a (onwards n (left - 1) b)) (sym (w ∙ ap (max worst) e)) (sym m))

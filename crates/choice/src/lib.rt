@@ -8,7 +8,7 @@ ghost use Rattle.vectors.specs.Vector.{vectorOf, dominates};
 ghost use Rattle.tables.specs.Layout.{decode};
 ghost use Rattle.tables.specs.Shape.{shape};
 ghost use Rattle.rules.specs.Choice.{startOf, next};
-ghost use Rattle.choice.specs.Outcome.{Asking, sessionIn, current, readVerdict, writeVerdict, verdict, ofWorst, found};
+ghost use Rattle.choice.specs.Outcome.{Asking, sessionIn, current, readVerdict, writeVerdict, verdict, ofWorst, valueOf, found};
 use tables::Table;
 
 // What a search for a server found.
@@ -128,7 +128,7 @@ fn refusal_of(worst: u32) -> Choice
 // The server for a read, or a write, of slot k's session: the first in the search order that is reachable and serves.
 pub fn search(t: &[u32], z: Table, k: usize, reach: u32, writing: bool) -> Choice
     requires { ⌜ Asking (shape z) (now t) k ⌝ }
-    ensures { λ r. ⌜ r ≡ found writing (shape z) (decode (shape z) (now (t .entry))) (sessionIn (shape z) (now (t .entry)) k) reach ⌝ }
+    ensures { λ r. ⌜ valueOf r ≡ found writing (shape z) (decode (shape z) (now (t .entry))) (sessionIn (shape z) (now (t .entry)) k) reach ⌝ }
 {
     let mut i = start_of(t, z, k);
     let mut left = z.n;

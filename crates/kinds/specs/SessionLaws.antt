@@ -21,8 +21,8 @@ module _ {z : Size} {t : List ℕ} (held : Held z t) where
   -- Slot k, whose first word was read.
   module _ (k : ℕ) (below : k < z .p) {first : ℕ} (read : first ≡ getD t (guaranteesAt z k) 0) where
     -- 01: "Open sets guarantees".
-    pub open-done : (g : ℕ) {at : ℕ} {r : Answer} → first ≡ 0 → at ≡ slotAt z k → r ≡ refused 0 → Obeys z t (opens k g) r (set t at (g + 1))
-    unfolding obeyed opening newSession refused done guaranteesAt
+    pub open-done : (g : ℕ) {at : ℕ} {r : Answer} → first ≡ 0 → at ≡ slotAt z k → r ≡ done → Obeys z t (opens k g) r (set t at (g + 1))
+    unfolding obeyed opening newSession guaranteesAt
     open-done g shut begins answer =
         let s = decode z t in
         let is-closed = shut-view held k below (sym read ∙ shut) in
@@ -38,9 +38,9 @@ module _ {z : Size} {t : List ℕ} (held : Held z t) where
     -- "Close zeros the slot." The slot's words are lent from one place to another.
     pub close-done : {r : Answer} {left : List ℕ} {from to : ℕ} → (first ≡ 0 → ⊥) → from ≡ slotAt z k → to ≡ from + (2 * z .n + 2)
         → left ≡ replicate (length (take (to - from) (drop from t))) 0
-        → r ≡ refused 0
+        → r ≡ done
         → Obeys z t (closes k) r (take from t ++ (left ++ drop (to - from) (drop from t)))
-    unfolding obeyed closing refused done
+    unfolding obeyed closing
     close-done some begins ends cleared answer =
         let s = decode z t in
         let words = 2 * z .n + 2 in

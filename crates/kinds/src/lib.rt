@@ -1,7 +1,8 @@
 // The kinds of step that choose no server: open, close and exchange, each on a sound table and with arguments in range. What each
 // answers and leaves in the table is defined in crates/rules/specs/Rules.antt; the promise of each is `Obeys` in specs/Obeys.antt.
 ghost use mathlib.Core.Path.{_≡_};
-ghost use Rattle.rules.specs.Step.{refused};
+ghost use Prim.Native.Nat.{_≤_};
+ghost use Rattle.rules.specs.Step.{refused, done};
 ghost use Rattle.kinds.specs.Obeys.{answerOf};
 
 pub mod exchanging;
@@ -17,8 +18,8 @@ pub struct Answer {
 }
 
 impl Answer {
-    // A refusal answers its code and four zeros. Code 0 is done, with zeros.
-    pub fn refusal(code: u32) -> Self
+    // A code and four zeros.
+    fn bare(code: u32) -> Self
         ensures { λ r. ⌜ answerOf r ≡ refused code ⌝ }
     {
         Answer {
@@ -28,5 +29,20 @@ impl Answer {
             clock: 0,
             value: 0,
         }
+    }
+
+    // A refusal answers its code, which is not 0, and four zeros.
+    pub fn refusal(code: u32) -> Self
+        requires { ⌜ 1 ≤ code ⌝ }
+        ensures { λ r. ⌜ answerOf r ≡ refused code ⌝ }
+    {
+        Answer::bare(code)
+    }
+
+    // Done, with zeros: what open and close answer.
+    pub fn done() -> Self
+        ensures { λ r. ⌜ answerOf r ≡ done ⌝ }
+    {
+        Answer::bare(0)
     }
 }

@@ -17,7 +17,7 @@ pub fn open_slot(t: &mut [u32], z: Table, k: usize, guarantees: u32) -> Answer
     }
     let a = z.slot_at(k);
     t[a] = guarantees + 1;
-    Answer::refusal(0)
+    Answer::done()
 }
 
 // Closes slot k: 0, or 3 if the slot is closed.
@@ -31,5 +31,5 @@ pub fn close_slot(t: &mut [u32], z: Table, k: usize) -> Answer
     let a = z.slot_at(k);
     let e = a + (2 * z.n + 2);
     words::clear(&mut t[a..e]);
-    Answer::refusal(0)
+    Answer::done()
 }

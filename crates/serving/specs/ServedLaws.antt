@@ -20,7 +20,7 @@ use Rattle.rules.specs.ChoiceLaws.{choose-some}
 use Rattle.rules.specs.Rules.{reading, readFrom, writing, writeTo, obeyed}
 use Rattle.choice.specs.declared.Choice.{Choice}
 use Rattle.choice.specs.declared.Choice.the-variants.{At, Behind, Full}
-use Rattle.choice.specs.Outcome.{outcome, upToDateTo, serves, found, Asking, sessionIn}
+use Rattle.choice.specs.Outcome.{Valued, valueOf, outcome, upToDateTo, serves, found, Asking, sessionIn}
 use Rattle.choice.specs.AskingLaws.{asking-starts}
 use Rattle.kinds.specs.Obeys.{Held, Comes}
 use Rattle.kinds.specs.ComesLaws.{comes-refused}
@@ -39,32 +39,33 @@ pub record Only (o r : Option ℕ) : Type 0 where
   pub current : o ≡ some first
   pub unserved : r ≡ none
 
-differ : {A : Type 0} → _≡_ {A = ℕ} 0 1 → A
-differ e = absurd (omega arith)
+-- Two outcomes with other codes.
+differ : {A : Type 0} {o p : Valued} → o ≡ p → (o .code ≡ p .code → ⊥) → A
+differ e apart = absurd (apart (ap (λ v. v .code) e))
 
-outcome-at : (o r : Option ℕ) (j : ℕ) → outcome o r ≡ At j → Both o r j
-unfolding outcome
-outcome-at none r j e = differ cc
-outcome-at (some i) none j e = differ cc
-outcome-at (some i) (some m) j e = record { first = i; current = refl; served = cc }
+outcome-at : (o r : Option ℕ) (j : ℕ) → outcome o r ≡ valueOf (At j) → Both o r j
+unfolding outcome valueOf
+outcome-at none r j e = differ e (λ c. omega arith)
+outcome-at (some i) none j e = differ e (λ c. omega arith)
+outcome-at (some i) (some m) j e = record { first = i; current = refl; served = ap (λ v. some (v .server)) e }
 
-outcome-behind : (o r : Option ℕ) → outcome o r ≡ Behind → o ≡ none
-unfolding outcome
+outcome-behind : (o r : Option ℕ) → outcome o r ≡ valueOf Behind → o ≡ none
+unfolding outcome valueOf
 outcome-behind none r e = refl
-outcome-behind (some i) none e = differ cc
-outcome-behind (some i) (some m) e = differ cc
+outcome-behind (some i) none e = differ e (λ c. omega arith)
+outcome-behind (some i) (some m) e = differ e (λ c. omega arith)
 
-outcome-full : (o r : Option ℕ) → outcome o r ≡ Full → Only o r
-unfolding outcome
-outcome-full none r e = differ cc
+outcome-full : (o r : Option ℕ) → outcome o r ≡ valueOf Full → Only o r
+unfolding outcome valueOf
+outcome-full none r e = differ e (λ c. omega arith)
 outcome-full (some i) none e = record { first = i; current = refl; unserved = refl }
-outcome-full (some i) (some m) e = differ cc
+outcome-full (some i) (some m) e = differ e (λ c. omega arith)
 
 -- One search is never full.
-outcome-same : {A : Type 0} (o : Option ℕ) → outcome o o ≡ Full → A
-unfolding outcome
-outcome-same none e = differ cc
-outcome-same (some i) e = differ cc
+outcome-same : {A : Type 0} (o : Option ℕ) → outcome o o ≡ valueOf Full → A
+unfolding outcome valueOf
+outcome-same none e = differ e (λ c. omega arith)
+outcome-same (some i) e = differ e (λ c. omega arith)
 
 -- ---- what is found in the table
 
@@ -106,28 +107,28 @@ module _ {z : Size} {t : List ℕ} {k : ℕ} (asking : Asking z t k) where
         ap (reading z (decode z t) k item reach) (asking .is-open)
         ∙ (cond-false (eqb reach 0) _ _ (ne-eqb reach 0 n) ∙ ap (readFrom (decode z t) k item (sessionIn z t k)) e)
 
-    module _ (n : reach ≡ 0 → ⊥) {c : Choice} (so : c ≡ found false z (decode z t) (sessionIn z t k) reach) where
+    module _ (n : reach ≡ 0 → ⊥) {c : Choice} (so : valueOf c ≡ found false z (decode z t) (sessionIn z t k) reach) where
       -- 6: none is up to date.
       pub read-behind : c ≡ Behind → {r : Answer} → r ≡ refused 6 → Comes z (obeyed z (decode z t) (reads k item reach)) r t
       unfolding found upToDateTo serves readFrom
-      read-behind e answer = comes-refused (asking .means) 6 (read-by n none (outcome-behind _ _ (sym so ∙ e))) answer
+      read-behind e answer = comes-refused (asking .means) 6 (read-by n none (outcome-behind _ _ (sym so ∙ ap valueOf e))) answer
 
       pub read-not-full : {A : Type 0} → c ≡ Full → A
       unfolding found upToDateTo serves
-      read-not-full e = outcome-same _ (sym so ∙ e)
+      read-not-full e = outcome-same _ (sym so ∙ ap valueOf e)
 
       -- The server found, one of the table's,
       pub read-below : (i : ℕ) → c ≡ At i → i < z .n
       unfolding found upToDateTo serves
       read-below i e =
-          choose-some (z .n) _ reach _ i (asking-starts asking) (outcome-at _ _ i (sym so ∙ e) .served) .server
+          choose-some (z .n) _ reach _ i (asking-starts asking) (outcome-at _ _ i (sym so ∙ ap valueOf e) .served) .server
 
       -- serves the read.
       pub read-served : (i : ℕ) → c ≡ At i → {r : Answer} {left : List ℕ} → Comes z (readFrom (decode z t) k item (sessionIn z t k) (some i)) r left
           → Comes z (obeyed z (decode z t) (reads k item reach)) r left
       unfolding found upToDateTo serves
       read-served i e {r} {left} comes =
-          subst (λ p. Comes z p r left) (sym (read-by n (some i) (outcome-at _ _ i (sym so ∙ e) .served))) comes
+          subst (λ p. Comes z p r left) (sym (read-by n (some i) (outcome-at _ _ i (sym so ∙ ap valueOf e) .served))) comes
 
   -- ---- a write of an open slot
 
@@ -147,22 +148,22 @@ module _ {z : Size} {t : List ℕ} {k : ℕ} (asking : Asking z t k) where
         ap (writing z (decode z t) k item value reach) (asking .is-open)
         ∙ (cond-false (eqb reach 0) _ _ (ne-eqb reach 0 n) ∙ ap₂ (writeTo z (decode z t) k item value (sessionIn z t k)) e f)
 
-    module _ (n : reach ≡ 0 → ⊥) {c : Choice} (so : c ≡ found true z (decode z t) (sessionIn z t k) reach) where
+    module _ (n : reach ≡ 0 → ⊥) {c : Choice} (so : valueOf c ≡ found true z (decode z t) (sessionIn z t k) reach) where
       pub write-behind : c ≡ Behind → {r : Answer} → r ≡ refused 6 → Comes z (obeyed z (decode z t) (writes k item value reach)) r t
       unfolding found upToDateTo serves writeTo
-      write-behind e answer = comes-refused (asking .means) 6 (write-by n none _ (outcome-behind _ _ (sym so ∙ e)) refl) answer
+      write-behind e answer = comes-refused (asking .means) 6 (write-by n none _ (outcome-behind _ _ (sym so ∙ ap valueOf e)) refl) answer
 
       -- 7: those that are up to date have no free place.
       pub write-full : c ≡ Full → {r : Answer} → r ≡ refused 7 → Comes z (obeyed z (decode z t) (writes k item value reach)) r t
       unfolding found upToDateTo serves writeTo
       write-full e answer =
-          let f : Only _ _ = outcome-full _ _ (sym so ∙ e) in
+          let f : Only _ _ = outcome-full _ _ (sym so ∙ ap valueOf e) in
           comes-refused (asking .means) 7 (write-by n (some (f .first)) none (f .current) (f .unserved)) answer
 
       module _ (i : ℕ) (e : c ≡ At i) where
         write-chosen : Chosen (z .n) (startOf (sessionIn z t k)) reach (mayWriteTo z (decode z t) (sessionIn z t k)) i
         unfolding found upToDateTo serves
-        write-chosen = choose-some (z .n) _ reach _ i (asking-starts asking) (outcome-at _ _ i (sym so ∙ e) .served)
+        write-chosen = choose-some (z .n) _ reach _ i (asking-starts asking) (outcome-at _ _ i (sym so ∙ ap valueOf e) .served)
 
         pub write-below : i < z .n
         write-below = write-chosen .server
@@ -175,5 +176,5 @@ module _ {z : Size} {t : List ℕ} {k : ℕ} (asking : Asking z t k) where
             → Comes z (obeyed z (decode z t) (writes k item value reach)) r left
         unfolding found upToDateTo serves writeTo
         write-served {r} {left} comes =
-            let f : Both _ _ i = outcome-at _ _ i (sym so ∙ e) in
+            let f : Both _ _ i = outcome-at _ _ i (sym so ∙ ap valueOf e) in
             subst (λ p. Comes z p r left) (sym (write-by n (some (f .first)) (some i) (f .current) (f .served))) comes

@@ -1,2 +1,3 @@
 pub mod StepInto
 pub mod StepIntoLaws
+pub mod OrderLaws

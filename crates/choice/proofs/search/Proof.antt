@@ -2,17 +2,17 @@
 use borrow.Author.Needs.{needs}
 use Prim.Native.Nat.{_<_}
 use Rattle.choice.specs.AskingLaws.{asking-starts}
-use Rattle.choice.specs.Outcome.{sessionIn, found, searched, verdict}
+use Rattle.choice.specs.Outcome.{sessionIn, valueOf, found, searched, verdict}
 use Rattle.choice.specs.OutcomeLaws.{search-starts, search-ends, search-found, search-on, next-below}
 use Rattle.rules.specs.Choice.{onwards}
 use Rattle.tables.specs.Layout.{decode}
 use Rattle.tables.specs.Shape.{shape}
-use mathlib.Core.Path.{_≡_, _∙_, sym, subst}
+use mathlib.Core.Path.{_≡_, _∙_, sym, ap, subst}
 use Rattle.choice.proofs.search.Statement.{statement}
 use Rattle.choice.proofs.search.Tie as tie
 
 abbrev Inv-loop : tie.InvT-loop
-Inv-loop t z k reach writing i₀ left₀ worst₀ i left worst = (i < z .n) × (found writing (shape z) (decode (shape z) t) (sessionIn (shape z) t k) reach ≡ searched (verdict writing (shape z) (decode (shape z) t) (sessionIn (shape z) t k) reach) worst (onwards (z .n) left i))
+Inv-loop t z k reach writing i₀ left₀ worst₀ i left worst = (i < z .n) × (found writing (shape z) (decode (shape z) t) (sessionIn (shape z) t k) reach ≡ valueOf (searched (verdict writing (shape z) (decode (shape z) t) (sessionIn (shape z) t k) reach) worst (onwards (z .n) left i)))
 
 abbrev μ-loop : tie.MeasureT-loop
 μ-loop t z k reach writing i₀ left₀ worst₀ i left worst = left
@@ -49,7 +49,7 @@ loop-again c =
     )
 
 returns : tie.Need-returns Inv-loop μ-loop
-returns c = c .refusal-of .ensures ∙ sym (search-ends _ _ _ _ _ (c .before .before .loop .inv .1) (c .before .if1 .taken))
+returns c = ap valueOf (c .refusal-of .ensures) ∙ sym (search-ends _ _ _ _ _ (c .before .before .loop .inv .1) (c .before .if1 .taken))
 
 returns-2 : tie.Need-returns-2 Inv-loop μ-loop
 returns-2 c = sym (search-found _ _ _ _ _ (c .before .before .before .loop .inv .1) (search needs) (sym (c .before .verdict-on .ensures) ∙ c .if2 .taken))

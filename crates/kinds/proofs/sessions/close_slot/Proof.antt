@@ -47,8 +47,8 @@ part-clear-end c = omega (arith, length-view (c .before .before .before .before 
 clear-requires : tie.Need-clear-requires
 clear-requires c κs = search needs
 
-refusal-requires-2 : tie.Need-refusal-requires-2
-refusal-requires-2 c κs = search needs
+done-requires : tie.Need-done-requires
+done-requires c κs = search needs
 
 same-length-2 : tie.Need-same-length-2
 same-length-2 c = search needs
@@ -56,7 +56,7 @@ same-length-2 c = search needs
 returns-2 : tie.Need-returns-2
 returns-2 c =
     let start = c .before .before .before .before .before .before .before .before .before .before .before in
-    close-done (start .pre .0) _ (start .pre .1) (c .before .before .before .before .before .before .before .before .guarantees .ensures) (c .before .before .before .before .before .before .before .if1 .left) (c .before .before .before .before .before .before .slot-at .ensures .is) refl (c .before .before .before .clear .ensures) (c .refusal2 .ensures)
+    close-done (start .pre .0) _ (start .pre .1) (c .before .before .before .before .before .before .before .before .guarantees .ensures) (c .before .before .before .before .before .before .before .if1 .left) (c .before .before .before .before .before .before .slot-at .ensures .is) refl (c .before .before .before .clear .ensures) (c .done .ensures)
 
 pub close-slot-spec : {M : Type 1} → statement M
 close-slot-spec =
@@ -75,6 +75,6 @@ close-slot-spec =
     part-clear-start
     part-clear-end
     clear-requires
-    refusal-requires-2
+    done-requires
     same-length-2
     returns-2)

@@ -31,14 +31,14 @@ mul-t c = search needs
 slice-write-t : tie.Need-slice-write-t
 slice-write-t c = omega (arith, length-view (c .before .before .before .before .before .pre .0), c .slot-at .ensures .inside)
 
-refusal-requires-2 : tie.Need-refusal-requires-2
-refusal-requires-2 c κs = search needs
+done-requires : tie.Need-done-requires
+done-requires c κs = search needs
 
 same-length-2 : tie.Need-same-length-2
 same-length-2 c = search needs
 
 returns-2 : tie.Need-returns-2
-returns-2 c = open-done (c .before .before .before .before .before .before .pre .0) _ (c .before .before .before .before .before .before .pre .1) (c .before .before .before .guarantees .ensures) _ (c .before .before .if1 .left) (c .before .slot-at .ensures .is) (c .refusal2 .ensures)
+returns-2 c = open-done (c .before .before .before .before .before .before .pre .0) _ (c .before .before .before .before .before .before .pre .1) (c .before .before .before .guarantees .ensures) _ (c .before .before .if1 .left) (c .before .slot-at .ensures .is) (c .done .ensures)
 
 pub open-slot-spec : {M : Type 1} → statement M
 open-slot-spec =
@@ -52,6 +52,6 @@ open-slot-spec =
     add-t
     mul-t
     slice-write-t
-    refusal-requires-2
+    done-requires
     same-length-2
     returns-2)

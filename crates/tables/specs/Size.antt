@@ -1,4 +1,6 @@
--- The limits, each named here and nowhere else, and the size of a table. Assumes nothing.
+-- The limits and the size of a table. Definitions name the limits from here. The code names them as constants of `Table`, which are shown to
+-- be these where `is_within` and its callers are proved; and they stand once more as plain numbers, for readers, in `SizeLaws: Within` and
+-- `rules/Step: Proper`, which laws hold to these. Assumes nothing.
 use Prim.Native.Nat.{ℕ}
 use mathlib.Core.Bool.{Bool, _&&_}
 use lib.Dec.{leb}

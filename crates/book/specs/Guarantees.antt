@@ -16,7 +16,7 @@ use Rattle.rules.specs.Choice.{readYourWrites, monotonicReads, writesFollowRead
 use Rattle.book.specs.Terms.{Stores, DependsOn, after, Reads, Writes, Lasts, Chose}
 use Rattle.book.specs.Propagation.{Precedes}
 use Rattle.book.specs.Moments.{stateAfter, after-append, stored, stores, means-after, kept-after, precedes-after}
-use Rattle.book.specs.Remembering.{checked-reads, checked-writes, read-remembers, write-remembers, read-after, write-after, read-served, write-served}
+use Rattle.book.specs.Remembering.{read-remembers, write-remembers, read-after, write-after, read-served, write-served}
 
 -- Any schedule from a sound table, and so from a fresh one (`fresh-sound`), with two of its steps marked: `pre`, the step x, `mid`, the
 -- step y, and `post`.
@@ -82,7 +82,7 @@ module _ (t₀ : List ℕ) (is-sound : sound t₀ ≡ true) (pre : List Step) (x
   pub read-your-writes : (k j : ℕ) (w : Write) → Writes t₁ x k w → Lasts k t₂ mid → Reads t₃ y k j → Chose t₃ k readYourWrites → Stores t₃ j w
   unfolding stateAfter
   read-your-writes k j w wrote lasts read chose =
-      read-served m₃ y k w readYourWrites (λ q. q .writeVector) (checked-writes monotonicReads readYourWrites (z .n)) j read chose
+      read-served m₃ y k w readYourWrites (λ q. q .writeVector) (λ q v c. c .writes) j read chose
       (write-after m₂ k mid lasts w (write-remembers m₁ x k w wrote))
 
   -- Monotonic Reads. 002, 3.2: "If Read R1 occurs before R2 in a session and R1 accesses server S1 at time t1 and R2 accesses server S2 at
@@ -91,7 +91,7 @@ module _ (t₀ : List ℕ) (is-sound : sound t₀ ≡ true) (pre : List Step) (x
       → (w : Write) → DependsOn t₁ x i w → Stores t₃ j w
   unfolding stateAfter
   monotonic-reads k i j first lasts second chose w depends =
-      read-served m₃ y k w monotonicReads (λ q. q .readVector) (checked-reads monotonicReads readYourWrites (z .n)) j second chose
+      read-served m₃ y k w monotonicReads (λ q. q .readVector) (λ q v c. c .reads) j second chose
       (read-after m₂ k mid lasts w (read-remembers m₁ x k i first w depends))
 
   -- What a write is behind when it is made it is behind at every later moment and at every server.
@@ -107,7 +107,7 @@ module _ (t₀ : List ℕ) (is-sound : sound t₀ ≡ true) (pre : List Step) (x
       → (w₁ : Write) → DependsOn t₁ x i w₁ → (j : ℕ) → Stores t₅ j w₂ → Stores t₅ j w₁ × (before w₁ w₂ ≡ true)
   unfolding stateAfter
   writes-follow-reads k i w₂ read lasts wrote chose w₁ depends =
-      behind-for-ever w₁ w₂ (write-served m₃ y k w₁ writesFollowReads (λ q. q .readVector) (checked-reads writesFollowReads monotonicWrites (z .n)) w₂ wrote chose
+      behind-for-ever w₁ w₂ (write-served m₃ y k w₁ writesFollowReads (λ q. q .readVector) (λ q v c. c .reads) w₂ wrote chose
       (read-after m₂ k mid lasts w₁ (read-remembers m₁ x k i read w₁ depends)))
 
   -- Monotonic Writes. 002, 3.4: "If Write W1 precedes Write W2 in a session, then, for any server S2, if W2 is in DB(S2) then W1 is also
@@ -116,7 +116,7 @@ module _ (t₀ : List ℕ) (is-sound : sound t₀ ≡ true) (pre : List Step) (x
       → (j : ℕ) → Stores t₅ j w₂ → Stores t₅ j w₁ × (before w₁ w₂ ≡ true)
   unfolding stateAfter
   monotonic-writes k w₁ w₂ first lasts second chose =
-      behind-for-ever w₁ w₂ (write-served m₃ y k w₁ monotonicWrites (λ q. q .writeVector) (checked-writes writesFollowReads monotonicWrites (z .n)) w₂ second chose
+      behind-for-ever w₁ w₂ (write-served m₃ y k w₁ monotonicWrites (λ q. q .writeVector) (λ q v c. c .writes) w₂ second chose
       (write-after m₂ k mid lasts w₁ (write-remembers m₁ x k w₁ first)))
 
 -- No server ever loses a write: what is stored at one moment is stored at every later one.

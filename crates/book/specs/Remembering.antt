@@ -6,10 +6,6 @@ use mathlib.Core.Path.{_≡_, refl, sym, _∙_, ap, subst}
 use native.Mathlib.Omega.{arith}
 use Rattle.words.specs.Lists.{In, here}
 use Rattle.words.specs.ListLaws.{in-append-right}
-use Rattle.words.specs.Tests.{implies}
-use Rattle.words.specs.TestLaws.{and-left, and-right, implies-use}
-use Rattle.vectors.specs.Vector.{dominates}
-use Rattle.vectors.specs.VectorLaws.{dominates-at}
 use Rattle.logs.specs.Write.{Write}
 use Rattle.tables.specs.StateLaws.{one-session}
 use Rattle.tables.specs.Size.{Size}
@@ -20,7 +16,8 @@ use Rattle.tables.specs.MeaningLaws.{means-state}
 use Rattle.rules.specs.Calls.{step}
 use Rattle.rules.specs.ChoiceLaws.{may-current}
 use Rattle.rules.specs.Step.{Step}
-use Rattle.rules.specs.Choice.{readYourWrites, monotonicReads, writesFollowReads, monotonicWrites, upToDateToRead, upToDateToWrite, upToDate}
+use Rattle.rules.specs.Choice.{readYourWrites, monotonicReads, writesFollowReads, monotonicWrites}
+use Rattle.rules.specs.CurrentLaws.{AtMost, Current, current-to-read, current-to-write}
 use Rattle.rules.specs.Rules.{rule}
 use Rattle.rules.specs.Done.{ReadDone, WriteDone}
 use Rattle.book.specs.BookLaws.{relevant-exactly}
@@ -34,24 +31,9 @@ use Rattle.book.specs.Accepted.{read-did, read-at, write-did, write-is}
 
 module _ {z : Size} {s : State} (sound : SoundState z s) where
   -- A write at or below a vector that the server's vector dominates is stored there.
-  dominated-stored : (i : ℕ) (v : ℕ → ℕ) → dominates (z .n) (s .vector i) v ≡ true → (w : Write) → In w (s .log (w .origin)) → w .clock ≤ v (w .origin)
+  dominated-stored : (i : ℕ) (v : ℕ → ℕ) → AtMost (z .n) v (s .vector i) → (w : Write) → In w (s .log (w .origin)) → w .clock ≤ v (w .origin)
       → In w (s .log i)
-  dominated-stored i v h w m l =
-      sound .complete i w m (omega (arith, dominates-at (z .n) (s .vector i) v h (w .origin) (sound .origins (w .origin) w m)))
-
--- What the check of a server asks, guarantee by guarantee.
-module _ (forReads forWrites : ℕ → Bool) (n : ℕ) (q : Session) (v : ℕ → ℕ) (h : upToDate forReads forWrites n q v ≡ true) where
-  -- The first asks for the read-vector,
-  pub checked-reads : forReads (q .guarantees) ≡ true → dominates n v (q .readVector) ≡ true
-  unfolding upToDate
-  checked-reads g =
-      implies-use (forReads (q .guarantees)) _ (and-left (implies (forReads (q .guarantees)) (dominates n v (q .readVector))) _ h) g
-
-  -- the second for the write-vector.
-  pub checked-writes : forWrites (q .guarantees) ≡ true → dominates n v (q .writeVector) ≡ true
-  unfolding upToDate
-  checked-writes g =
-      implies-use (forWrites (q .guarantees)) _ (and-right (implies (forReads (q .guarantees)) (dominates n v (q .readVector))) _ h) g
+  dominated-stored i v h w m l = sound .complete i w m (omega (arith, h (w .origin) (sound .origins (w .origin) w m)))
 
 -- ---- what a session remembers of a read and of a write
 
@@ -122,27 +104,25 @@ module _ {z : Size} {s : State} {t : List ℕ} (means : Means z s t) (y : Step) 
 
   -- A read that is served by a guarantee is served where the write is stored.
   pub read-served : (guarantee : ℕ → Bool) (vector : Session → ℕ → ℕ)
-      → ((q : Session) (v : ℕ → ℕ) → upToDate monotonicReads readYourWrites (z .n) q v ≡ true → guarantee (q .guarantees) ≡ true → dominates (z .n) v (vector q) ≡ true)
+      → ((q : Session) (v : ℕ → ℕ) → Current monotonicReads readYourWrites (z .n) q v → guarantee (q .guarantees) ≡ true → AtMost (z .n) (vector q) v)
       → (j : ℕ) → Reads t y k j → Chose t k guarantee → Remembers s k vector w → Stores t j w
-  unfolding upToDateToRead
   read-served guarantee vector checked j r c m =
       let d : ReadDone z s k (y .b) (y .c) (step t y .answer) (rule z s y .state) = read-did means y k j r in
       let q = d .session in
       stores means j w (subst (λ (i : ℕ). In w (s .log i)) (read-at means y k j r) (dominated-stored (means .state) (d .server) (vector q)
-      (checked q (s .vector (d .server)) (d .chosen .passed) (chose-here guarantee q (d .open-slot) c)) w (m .made)
+      (checked q (s .vector (d .server)) (current-to-read z s q (d .server) .0 (d .chosen .passed)) (chose-here guarantee q (d .open-slot) c)) w (m .made)
       (subst (λ (p : Session). w .clock ≤ vector p (w .origin)) (one-session (m .is) (d .open-slot)) (m .covers))))
 
   -- A write that is taken by a guarantee comes behind the write remembered.
   pub write-served : (guarantee : ℕ → Bool) (vector : Session → ℕ → ℕ)
-      → ((q : Session) (v : ℕ → ℕ) → upToDate writesFollowReads monotonicWrites (z .n) q v ≡ true → guarantee (q .guarantees) ≡ true → dominates (z .n) v (vector q) ≡ true)
+      → ((q : Session) (v : ℕ → ℕ) → Current writesFollowReads monotonicWrites (z .n) q v → guarantee (q .guarantees) ≡ true → AtMost (z .n) (vector q) v)
       → (w₂ : Write) → Writes t y k w₂ → Chose t k guarantee → Remembers s k vector w → Precedes (rule z s y .state) w w₂
-  unfolding upToDateToWrite
   write-served guarantee vector checked w₂ r c m =
       let d : WriteDone z s k (y .b) (y .c) (y .d) (step t y .answer) (rule z s y .state) = write-did means y k w₂ r in
       let q = d .session in
       let held : In w (s .log (d .server)) =
       dominated-stored (means .state) (d .server) (vector q) (checked q (s .vector (d .server))
-      (may-current z s q (d .server) (d .chosen .passed))
+      (current-to-write z s q (d .server) .0 (may-current z s q (d .server) (d .chosen .passed)))
       (chose-here guarantee q (d .open-slot) c)) w (m .made)
       (subst (λ (p : Session). w .clock ≤ vector p (w .origin)) (one-session (m .is) (d .open-slot)) (m .covers)) in
       subst (λ (v : Write). Precedes (rule z s y .state) w v) (sym (write-is means y k w₂ r)) (accepted-precedes (means .state) d w held)

@@ -3,6 +3,7 @@ pub mod StepLaws
 pub mod Choice
 pub mod Chosen
 pub mod ChoiceLaws
+pub mod CurrentLaws
 pub mod Rules
 pub mod Figure1
 pub mod Codes

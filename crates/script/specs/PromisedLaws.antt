@@ -8,6 +8,7 @@ use mathlib.Core.Path.{_≡_, refl, sym, _∙_, ap, subst}
 use native.Mathlib.Omega.{arith}
 use borrow.Author.Tests.{leb-true, le-leb}
 use lib.ListN.{length, take, drop, length-drop, length-append}
+use lib.Seq.{take-at}
 use Rattle.words.specs.Lists.{splice}
 use Rattle.words.specs.TestLaws.{cond-true, cond-false, and-left, and-right, either, true-not-false}
 use Rattle.tables.specs.Size.{Size}
@@ -22,7 +23,7 @@ use Rattle.lines.specs.Decimal.{decimal, greatest}
 use Rattle.lines.specs.DecimalLaws.{length-decimal}
 use Rattle.lines.specs.Line.{fields}
 use Rattle.printing.specs.Printed.{Puts, wordLines}
-use Rattle.script.specs.Reply.{answerLine, mostBytes, mostSteps, admissible, answerLines, tooLong, badLine}
+use Rattle.script.specs.Reply.{answerLine, mostBytes, mostSteps, admissible, answerLines, tooLong, badLine, Reply}
 use Rattle.script.specs.Collect.{collect, sizesOf, replyBehind, replyOf, replyFrom, replyTo}
 use Rattle.script.specs.ReplyLaws.{reply-found, reply-settled, short-one}
 use Rattle.script.specs.Promised.{answersOf, Room, roomy, Replied, ReplyPromise}
@@ -155,6 +156,11 @@ module _ (table steps answers out : List ℕ) {ok : Bool} (is : ok ≡ roomy tab
 pub reply-8-exactly : (text table steps answers out : List ℕ) {code count : ℕ} {table′ steps′ answers′ out′ : List ℕ}
     → ReplyPromise text table steps answers out code count table′ steps′ answers′ out′ → (code ≡ 8) ↔ (Room table steps answers out → ⊥)
 reply-8-exactly text table steps answers out p = (λ e room. omega (arith, p .with-room room .code-is), λ small. p .without small .code-is)
+
+-- The first `count` bytes are the reply.
+pub replied-front : {text out : List ℕ} {code count : ℕ} {left : List ℕ} → Replied text out code count left → Reply text (take count left)
+replied-front {text} {out} {count = count} p =
+    subst (Reply text) (sym (ap (take count) (p .written) ∙ take-at (p .bytes) (drop (length (p .bytes)) out) count (sym (p .count-is)))) (p .is-reply)
 
 replied-settled : {text out : List ℕ} {c d m n : ℕ} {left last : List ℕ} → Replied text out c m left → Replied text out d n last → (c ≡ d) × (m ≡ n) × (left ≡ last)
 replied-settled {text} {out} p q =

@@ -1,5 +1,6 @@
 -- `desk::work` meets its contract: its arrays have room. Assumes nothing.
 use borrow.Author.Needs.{needs}
+use native.Mathlib.Omega.{arith}
 use Rattle.desk.specs.ServedLaws.{served-work}
 use Rattle.desk.proofs.work.Statement.{statement}
 use Rattle.desk.proofs.work.Tie as tie
@@ -23,7 +24,10 @@ serve-requires : tie.Need-serve-requires
 serve-requires c κs = search needs
 
 returns : tie.Need-returns
-returns c = served-work (c .before .before .before .before .before .serve .ensures) (search needs) (search needs)
+returns c =
+    served-work (c .before .before .before .before .before .serve .ensures)
+    (record { for-table = omega arith; for-steps = omega arith; for-answers = omega arith; for-out = omega arith })
+    (omega arith)
 
 pub work-spec : {M : Type 1} → statement M
 work-spec =

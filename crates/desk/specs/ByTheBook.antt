@@ -27,9 +27,9 @@ printed-by-the-book z xs text out spelled short few said =
     reply-settled text out _ said (answered short z xs spelled few) ∙ ap answerLines (schedule-book z (within-limits spelled) xs)
 
 -- The same of what `serve` leaves in `out`, if what was read is the input.
-pub served-by-the-book : {text table steps answers out table′ steps′ answers′ out′ : List ℕ} {read code count : ℕ}
-    → ServePromise text table steps answers out read code count table′ steps′ answers′ out′ → Room table steps answers out
-    → (z : Size) (xs : List Step) (input : List ℕ) → take read text ≡ take 16385 input → Script z xs input → length input ≤ mostBytes → length xs ≤ mostSteps
+pub served-by-the-book : {table steps answers out text′ table′ steps′ answers′ out′ : List ℕ} {read code count : ℕ}
+    → ServePromise table steps answers out read code count text′ table′ steps′ answers′ out′ → Room table steps answers out
+    → (z : Size) (xs : List Step) (input : List ℕ) → take read text′ ≡ take 16385 input → Script z xs input → length input ≤ mostBytes → length xs ≤ mostSteps
     → take count out′ ≡ answerLines (bookAnswers z blank xs)
 served-by-the-book {out′} {count} served room z xs input is spelled short few =
     printed-by-the-book z xs input (take count out′) spelled short few (served-reply served room input is)

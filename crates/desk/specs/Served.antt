@@ -7,9 +7,9 @@ use lib.ListN.{length, take}
 use Rattle.script.specs.Promised.{Replied, ReplyPromise}
 
 -- The promise of `serve`, for any buffers: `read` counts bytes at the front of the text's buffer as it is left, and the reply is to these.
-pub record ServePromise (text table steps answers out : List ℕ) (read code count : ℕ) (table′ steps′ answers′ out′ : List ℕ) : Type 0 where
-  pub within : read ≤ length text
-  pub replied : ReplyPromise (take read text) table steps answers out code count table′ steps′ answers′ out′
+pub record ServePromise (table steps answers out : List ℕ) (read code count : ℕ) (text′ table′ steps′ answers′ out′ : List ℕ) : Type 0 where
+  pub within : read ≤ length text′
+  pub replied : ReplyPromise (take read text′) table steps answers out code count table′ steps′ answers′ out′
 
 -- The promise of `work`, whose arrays have room: some text of `read` bytes has got its reply.
 pub record WorkPromise (read code count : ℕ) : Type 0 where

@@ -21,7 +21,7 @@ fn serve(
     answers: &mut [u32],
     out: &mut [u8],
 ) -> Served
-    ensures { λ r. ⌜ ServePromise (now (text .exit)) (now (table .entry)) (now (steps .entry)) (now (answers .entry)) (now (out .entry)) (r .read) (r .told .code) (r .told .count) (now (table .exit)) (now (steps .exit)) (now (answers .exit)) (now (out .exit)) ⌝ }
+    ensures { λ r. ⌜ ServePromise (now (table .entry)) (now (steps .entry)) (now (answers .entry)) (now (out .entry)) (r .read) (r .told .code) (r .told .count) (now (text .exit)) (now (table .exit)) (now (steps .exit)) (now (answers .exit)) (now (out .exit)) ⌝ }
 {
     let read = io::read_full(STDIN_FILENO, text);
     let told = script::reply(&text[..read], table, steps, answers, out);

@@ -26,7 +26,7 @@ use Rattle.printing.specs.Printed.{Puts, wordLines}
 use Rattle.script.specs.Reply.{answerLine, mostBytes, mostSteps, admissible, answerLines, tooLong, badLine, Reply}
 use Rattle.script.specs.Collect.{collect, sizesOf, replyBehind, replyOf, replyFrom, replyTo}
 use Rattle.script.specs.ReplyLaws.{reply-found, reply-settled, short-one}
-use Rattle.script.specs.Promised.{answersOf, Room, roomy, Replied, ReplyPromise}
+use Rattle.script.specs.Promised.{answersOf, Room, roomy, Replied, Misfits, ReplyPromise}
 use Rattle.script.specs.Listed.{collectedIn, Few, ListedPromise}
 use Rattle.script.specs.declared.collecting.Listed.{Listed}
 use Rattle.script.specs.declared.collecting.Listed.the-variants.{Whole, BadBehind, Longer}
@@ -170,12 +170,18 @@ replied-settled {text} {out} p q =
       p .written ∙ (ap (λ bs. bs ++ drop (length bs) out) same ∙ sym (q .written)),
     )
 
+misfits-settled : {table steps answers out : List ℕ} {c d m n : ℕ} {t s a o t′ s′ a′ o′ : List ℕ} → Misfits table steps answers out c m t s a o → Misfits table steps answers out d n t′ s′ a′ o′
+    → ((c ≡ d) × (m ≡ n) × (o ≡ o′)) × ((t ≡ t′) × (s ≡ s′) × (a ≡ a′))
+misfits-settled p q = (
+  (p .code-is ∙ sym (q .code-is), p .count-is ∙ sym (q .count-is), p .out-kept ∙ sym (q .out-kept)),
+  (p .table-kept ∙ sym (q .table-kept), p .steps-kept ∙ sym (q .steps-kept), p .answers-kept ∙ sym (q .answers-kept)),
+)
+
 -- Two results that the promise allows are equal: code, count and every byte of `out`; without room also every word of the others.
 pub promise-settled : (text table steps answers out : List ℕ) {c d m n : ℕ} {t s a o t′ s′ a′ o′ : List ℕ}
     → ReplyPromise text table steps answers out c m t s a o → ReplyPromise text table steps answers out d n t′ s′ a′ o′
     → ((c ≡ d) × (m ≡ n) × (o ≡ o′)) × ((Room table steps answers out → ⊥) → (t ≡ t′) × (s ≡ s′) × (a ≡ a′))
 promise-settled text table steps answers out p q = (
-  room-cases table steps answers out (λ room. replied-settled (p .with-room room) (q .with-room room))
-      (λ small. let one = p .without small in let other = q .without small in (one .code-is ∙ sym (other .code-is), one .count-is ∙ sym (other .count-is), one .out-kept ∙ sym (other .out-kept))),
-  λ small. let one = p .without small in let other = q .without small in (one .table-kept ∙ sym (other .table-kept), one .steps-kept ∙ sym (other .steps-kept), one .answers-kept ∙ sym (other .answers-kept)),
+  room-cases table steps answers out (λ room. replied-settled (p .with-room room) (q .with-room room)) (λ small. misfits-settled (p .without small) (q .without small) .0),
+  λ small. misfits-settled (p .without small) (q .without small) .1,
 )

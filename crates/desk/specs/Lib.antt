@@ -1,1 +1,3 @@
+pub mod Served
+pub mod ServedLaws
 pub mod ByTheBook

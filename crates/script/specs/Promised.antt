@@ -28,16 +28,26 @@ unfoldable pub roomy : (table steps answers out : List ℕ) → Bool
 roomy table steps answers out =
     leb 9012 (length table) && (leb 2560 (length steps) && (leb 2560 (length answers) && leb 28160 (length out)))
 
--- The reply stands at the front of the buffer, whose other bytes are as they were; r is its length.
-pub record Replied (text out : List ℕ) (r : ℕ) (left : List ℕ) : Type 0 where
+-- The reply stands at the front of the buffer, whose other bytes are as they were. The code is 0, the count the reply's length.
+pub record Replied (text out : List ℕ) (code count : ℕ) (left : List ℕ) : Type 0 where
   pub bytes : List ℕ
   pub is-reply : Reply text bytes
+  pub code-is : code ≡ 0
+  pub count-is : count ≡ length bytes
   pub written : left ≡ bytes ++ drop (length bytes) out
-  pub count-is : r ≡ length bytes
 
--- The promise of `reply`: with room the reply to the text; without, 0 and nothing altered. What table, steps and answers hold after a reply
+-- 01, "Answer codes": 8, "a length doesn't fit". There are no bytes of a reply, and every buffer keeps what it held.
+pub record Misfits (table steps answers out : List ℕ) (code count : ℕ) (table′ steps′ answers′ out′ : List ℕ) : Type 0 where
+  pub code-is : code ≡ 8
+  pub count-is : count ≡ 0
+  pub table-kept : table′ ≡ table
+  pub steps-kept : steps′ ≡ steps
+  pub answers-kept : answers′ ≡ answers
+  pub out-kept : out′ ≡ out
+
+-- The promise of `reply`: with room the reply to the text; without, 8 and nothing altered. What table, steps and answers hold after a reply
 -- is not promised: they are room to work in.
-pub record ReplyPromise (text table steps answers out : List ℕ) (r : ℕ) (table′ steps′ answers′ out′ : List ℕ) : Type 0 where
-  pub with-room : Room table steps answers out → Replied text out r out′
-  pub without : (Room table steps answers out → ⊥) → (r ≡ 0) × (table′ ≡ table) × (steps′ ≡ steps) × (answers′ ≡ answers) × (out′ ≡ out)
-  pub within : r ≤ length out′
+pub record ReplyPromise (text table steps answers out : List ℕ) (code count : ℕ) (table′ steps′ answers′ out′ : List ℕ) : Type 0 where
+  pub with-room : Room table steps answers out → Replied text out code count out′
+  pub without : (Room table steps answers out → ⊥) → Misfits table steps answers out code count table′ steps′ answers′ out′
+  pub within : count ≤ length out′

@@ -2,13 +2,15 @@
 use Prim.Native.Nat.{ℕ, _+_, _*_, _≤_, _<_}
 use mathlib.Core.Bool.{Bool, true, false}
 use mathlib.Core.List.{List, [], _∷_, _++_}
+use mathlib.Core.Logic.{⊎-elim, _↔_}
 use mathlib.Core.Option.{Option}
 use mathlib.Core.Path.{_≡_, refl, sym, _∙_, ap, subst}
 use native.Mathlib.Omega.{arith}
 use borrow.Author.Tests.{leb-true, le-leb}
 use lib.ListN.{length, take, drop, length-drop, length-append}
+use lib.Seq.{take-at}
 use Rattle.words.specs.Lists.{splice}
-use Rattle.words.specs.TestLaws.{cond-true, cond-false, and-left, and-right, true-not-false}
+use Rattle.words.specs.TestLaws.{cond-true, cond-false, and-left, and-right, either, true-not-false}
 use Rattle.tables.specs.Size.{Size}
 use Rattle.rules.specs.Step.{Step, Answer, answerWords}
 use Rattle.lines.specs.Read.{Got, readSizes, readLine}
@@ -21,10 +23,10 @@ use Rattle.lines.specs.Decimal.{decimal, greatest}
 use Rattle.lines.specs.DecimalLaws.{length-decimal}
 use Rattle.lines.specs.Line.{fields}
 use Rattle.printing.specs.Printed.{Puts, wordLines}
-use Rattle.script.specs.Reply.{answerLine, mostBytes, mostSteps, admissible, answerLines, tooLong, badLine}
+use Rattle.script.specs.Reply.{answerLine, mostBytes, mostSteps, admissible, answerLines, tooLong, badLine, Reply}
 use Rattle.script.specs.Collect.{collect, sizesOf, replyBehind, replyOf, replyFrom, replyTo}
 use Rattle.script.specs.ReplyLaws.{reply-found, reply-settled, short-one}
-use Rattle.script.specs.Promised.{answersOf, Room, roomy, Replied, ReplyPromise}
+use Rattle.script.specs.Promised.{answersOf, Room, roomy, Replied, Misfits, ReplyPromise}
 use Rattle.script.specs.Listed.{collectedIn, Few, ListedPromise}
 use Rattle.script.specs.declared.collecting.Listed.{Listed}
 use Rattle.script.specs.declared.collecting.Listed.the-variants.{Whole, BadBehind, Longer}
@@ -105,7 +107,7 @@ module _ (text : List ℕ) (short : length text ≤ mostBytes) {r : Line} (found
 -- ---- with room and without
 
 module _ (table steps answers out : List ℕ) where
-  pub roomy-room : roomy table steps answers out ≡ true → Room table steps answers out
+  roomy-room : roomy table steps answers out ≡ true → Room table steps answers out
   unfolding roomy
   roomy-room h =
       record {
@@ -119,22 +121,67 @@ module _ (table steps answers out : List ℕ) where
   unfolding roomy
   room-roomy room = rw (le-leb _ _ (room .for-table), le-leb _ _ (room .for-steps), le-leb _ _ (room .for-answers), le-leb _ _ (room .for-out))
 
-  pub replied : (text : List ℕ) {r : ℕ} {table′ steps′ answers′ out′ : List ℕ} → Room table steps answers out → Puts out 0 (replyTo text) r out′
-      → ReplyPromise text table steps answers out r table′ steps′ answers′ out′
-  unfolding splice
-  replied text room p =
-      record {
-        with-room = λ _. record { bytes = replyTo text; is-reply = reply-found text; written = p .written; count-is = omega (arith, p .next) };
-        without = λ small. absurd (small room);
-        within = omega (arith, p .next, ap length (p .written), length-append (replyTo text) (drop (length (replyTo text)) out));
-      }
+  -- There is room or there isn't.
+  room-cases : {A : Type 0} → (Room table steps answers out → A) → ((Room table steps answers out → ⊥) → A) → A
+  room-cases with-room without =
+      ⊎-elim (λ e. with-room (roomy-room e)) (λ e. without (λ room. true-not-false (room-roomy room) e)) (either (roomy table steps answers out))
 
-  pub refused : (text : List ℕ) → roomy table steps answers out ≡ false → ReplyPromise text table steps answers out 0 table steps answers out
-  refused text h = record { with-room = λ room. true-not-false (room-roomy room) h; without = λ _. (refl, refl, refl, refl, refl); within = omega arith }
+-- By the test of the lengths.
+module _ (table steps answers out : List ℕ) {ok : Bool} (is : ok ≡ roomy table steps answers out) where
+  pub tested-room : ok ≡ true → Room table steps answers out
+  tested-room h = roomy-room table steps answers out (sym is ∙ h)
 
--- ---- the promise settles the reply
+  module _ (text : List ℕ) where
+    pub replied : ok ≡ true → {count : ℕ} {table′ steps′ answers′ out′ : List ℕ} → Puts out 0 (replyTo text) count out′
+        → ReplyPromise text table steps answers out 0 count table′ steps′ answers′ out′
+    unfolding splice
+    replied h p =
+        record {
+          with-room = λ _. record { bytes = replyTo text; is-reply = reply-found text; code-is = refl; count-is = omega (arith, p .next); written = p .written };
+          without = λ small. absurd (small (tested-room h));
+          within = omega (arith, p .next, ap length (p .written), length-append (replyTo text) (drop (length (replyTo text)) out));
+        }
 
-pub replied-settled : {text out : List ℕ} {r s : ℕ} {left last : List ℕ} → Replied text out r left → Replied text out s last → (r ≡ s) × (left ≡ last)
+    pub refused : ok ≡ false → ReplyPromise text table steps answers out 8 0 table steps answers out
+    refused h =
+        record {
+          with-room = λ room. true-not-false (room-roomy table steps answers out room) (sym is ∙ h);
+          without = λ _. record { code-is = refl; count-is = refl; table-kept = refl; steps-kept = refl; answers-kept = refl; out-kept = refl };
+          within = omega arith;
+        }
+
+-- ---- what the promise says
+
+-- 01, "Answer codes": 8 exactly if a length doesn't fit.
+pub reply-8-exactly : (text table steps answers out : List ℕ) {code count : ℕ} {table′ steps′ answers′ out′ : List ℕ}
+    → ReplyPromise text table steps answers out code count table′ steps′ answers′ out′ → (code ≡ 8) ↔ (Room table steps answers out → ⊥)
+reply-8-exactly text table steps answers out p = (λ e room. omega (arith, p .with-room room .code-is), λ small. p .without small .code-is)
+
+-- The first `count` bytes are the reply.
+pub replied-front : {text out : List ℕ} {code count : ℕ} {left : List ℕ} → Replied text out code count left → Reply text (take count left)
+replied-front {text} {out} {count = count} p =
+    subst (Reply text) (sym (ap (take count) (p .written) ∙ take-at (p .bytes) (drop (length (p .bytes)) out) count (sym (p .count-is)))) (p .is-reply)
+
+replied-settled : {text out : List ℕ} {c d m n : ℕ} {left last : List ℕ} → Replied text out c m left → Replied text out d n last → (c ≡ d) × (m ≡ n) × (left ≡ last)
 replied-settled {text} {out} p q =
-    let same = reply-settled text (p .bytes) (q .bytes) (p .is-reply) (q .is-reply) in
-    (p .count-is ∙ (ap length same ∙ sym (q .count-is)), p .written ∙ (ap (λ bs. bs ++ drop (length bs) out) same ∙ sym (q .written)))
+    let same = reply-settled text (p .bytes) (q .bytes) (p .is-reply) (q .is-reply) in (
+      p .code-is ∙ sym (q .code-is),
+      p .count-is ∙ (ap length same ∙ sym (q .count-is)),
+      p .written ∙ (ap (λ bs. bs ++ drop (length bs) out) same ∙ sym (q .written)),
+    )
+
+misfits-settled : {table steps answers out : List ℕ} {c d m n : ℕ} {t s a o t′ s′ a′ o′ : List ℕ} → Misfits table steps answers out c m t s a o → Misfits table steps answers out d n t′ s′ a′ o′
+    → ((c ≡ d) × (m ≡ n) × (o ≡ o′)) × ((t ≡ t′) × (s ≡ s′) × (a ≡ a′))
+misfits-settled p q = (
+  (p .code-is ∙ sym (q .code-is), p .count-is ∙ sym (q .count-is), p .out-kept ∙ sym (q .out-kept)),
+  (p .table-kept ∙ sym (q .table-kept), p .steps-kept ∙ sym (q .steps-kept), p .answers-kept ∙ sym (q .answers-kept)),
+)
+
+-- Two results that the promise allows are equal: code, count and every byte of `out`; without room also every word of the others.
+pub promise-settled : (text table steps answers out : List ℕ) {c d m n : ℕ} {t s a o t′ s′ a′ o′ : List ℕ}
+    → ReplyPromise text table steps answers out c m t s a o → ReplyPromise text table steps answers out d n t′ s′ a′ o′
+    → ((c ≡ d) × (m ≡ n) × (o ≡ o′)) × ((Room table steps answers out → ⊥) → (t ≡ t′) × (s ≡ s′) × (a ≡ a′))
+promise-settled text table steps answers out p q = (
+  room-cases table steps answers out (λ room. replied-settled (p .with-room room) (q .with-room room)) (λ small. misfits-settled (p .without small) (q .without small) .0),
+  λ small. misfits-settled (p .without small) (q .without small) .1,
+)

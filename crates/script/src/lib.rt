@@ -31,6 +31,12 @@ pub const STEP_WORDS: usize = 2560;
 
 pub const OUT_BYTES: usize = 28160;
 
+// What `reply` tells its caller: 01's code, 0 or 8, and how many bytes the reply has.
+pub struct Told {
+    pub code: u32,
+    pub count: usize,
+}
+
 // Are the buffers long enough for any script?
 fn has_room(table: &[u32], steps: &[u32], answers: &[u32], out: &[u8]) -> bool
     ensures { λ r. ⌜ r ≡ roomy (now (table .entry)) (now (steps .entry)) (now (answers .entry)) (now (out .entry)) ⌝ }
@@ -116,19 +122,20 @@ fn reply_text(
     }
 }
 
-// Puts the reply to a text at the front of `out`, and answers how many bytes it has. Any text will do. The other buffers are room to work
-// in; what they hold before does not matter. If a buffer is shorter than the lengths above, answers 0 and alters nothing.
+// Puts the reply to a text at the front of `out`, and answers 0 and how many bytes it has. Any text will do. The other buffers are room to
+// work in; what they hold before does not matter. If a buffer is shorter than the lengths above, answers 8 and no bytes, and alters nothing.
 pub fn reply(
     text: &[u8],
     table: &mut [u32],
     steps: &mut [u32],
     answers: &mut [u32],
     out: &mut [u8],
-) -> usize
-    ensures { λ r. ⌜ ReplyPromise (now (text .entry)) (now (table .entry)) (now (steps .entry)) (now (answers .entry)) (now (out .entry)) r (now (table .exit)) (now (steps .exit)) (now (answers .exit)) (now (out .exit)) ⌝ }
+) -> Told
+    ensures { λ r. ⌜ ReplyPromise (now (text .entry)) (now (table .entry)) (now (steps .entry)) (now (answers .entry)) (now (out .entry)) (r .code) (r .count) (now (table .exit)) (now (steps .exit)) (now (answers .exit)) (now (out .exit)) ⌝ }
 {
     if has_room(table, steps, answers, out) {
-        return reply_text(text, table, steps, answers, out);
+        let count = reply_text(text, table, steps, answers, out);
+        return Told { code: 0, count };
     }
-    0
+    Told { code: 8, count: 0 }
 }

@@ -26,12 +26,6 @@ slice-aggregate-write-all c = sym (length-take-le _ _ (search needs))
 write-all-requires : tie.Need-write-all-requires
 write-all-requires c κs = search needs
 
-slice-aggregate-write-all-2 : tie.Need-slice-aggregate-write-all-2
-slice-aggregate-write-all-2 c = search needs
-
-write-all-requires-2 : tie.Need-write-all-requires-2
-write-all-requires-2 c κs = search needs
-
 same-length : tie.Need-same-length
 same-length c = search needs
 
@@ -48,25 +42,7 @@ same-length-5 : tie.Need-same-length-5
 same-length-5 c = search needs
 
 returns : tie.Need-returns
-returns c = search needs
-
-same-length-6 : tie.Need-same-length-6
-same-length-6 c = search needs
-
-same-length-7 : tie.Need-same-length-7
-same-length-7 c = search needs
-
-same-length-8 : tie.Need-same-length-8
-same-length-8 c = search needs
-
-same-length-9 : tie.Need-same-length-9
-same-length-9 c = search needs
-
-same-length-10 : tie.Need-same-length-10
-same-length-10 c = search needs
-
-returns-2 : tie.Need-returns-2
-returns-2 c = search needs
+returns c = record { within = c .before .before .before .before .before .before .before .before .before .before .before .before .before .before .before .before .before .before .read-full .ensures .0; replied = c .before .before .before .before .before .before .before .before .before .before .reply .ensures }
 
 pub serve-spec : {M : Type 1} → statement M
 serve-spec =
@@ -79,17 +55,9 @@ serve-spec =
     slice-reshare-prefix-write-all
     slice-aggregate-write-all
     write-all-requires
-    slice-aggregate-write-all-2
-    write-all-requires-2
     same-length
     same-length-2
     same-length-3
     same-length-4
     same-length-5
-    returns
-    same-length-6
-    same-length-7
-    same-length-8
-    same-length-9
-    same-length-10
-    returns-2)
+    returns)

@@ -1,7 +1,6 @@
 -- `script::reply` meets its contract. Assumes nothing.
 use borrow.Author.Needs.{needs}
-use mathlib.Core.Path.{sym, _∙_}
-use Rattle.script.specs.PromisedLaws.{roomy-room, replied, refused}
+use Rattle.script.specs.PromisedLaws.{tested-room, replied, refused}
 use Rattle.script.proofs.reply.Statement.{statement}
 use Rattle.script.proofs.reply.Tie as tie
 
@@ -9,7 +8,10 @@ has-room-requires : tie.Need-has-room-requires
 has-room-requires c κs = search needs
 
 reply-text-requires : tie.Need-reply-text-requires
-reply-text-requires c κs = roomy-room (c .before .before .before .before .before .before .before .before .before .before .before .before .before .before .before .args .table .now) (c .before .before .before .before .before .before .before .before .before .before .before .before .before .before .before .args .steps .now) (c .before .before .before .before .before .before .before .before .before .before .before .before .before .before .before .args .answers .now) (c .before .before .before .before .before .before .before .before .before .before .before .before .before .before .before .args .out .now) (sym (c .before .before .before .before .before .has-room .ensures) ∙ c .before .before .before .before .if1 .taken)
+reply-text-requires c κs =
+    let tested = c .before .before .before .before in
+    let s = tested .before .before .before .before .before .before .before .before .before .before .before .args in
+    tested-room (s .table .now) (s .steps .now) (s .answers .now) (s .out .now) (tested .before .has-room .ensures) (tested .if1 .taken)
 
 same-length : tie.Need-same-length
 same-length c = search needs
@@ -24,7 +26,10 @@ same-length-4 : tie.Need-same-length-4
 same-length-4 c = search needs
 
 returns : tie.Need-returns
-returns c = replied (c .before .before .before .before .before .before .before .before .before .before .before .before .before .before .before .before .before .before .before .before .before .before .before .before .args .table .now) (c .before .before .before .before .before .before .before .before .before .before .before .before .before .before .before .before .before .before .before .before .before .before .before .before .args .steps .now) (c .before .before .before .before .before .before .before .before .before .before .before .before .before .before .before .before .before .before .before .before .before .before .before .before .args .answers .now) (c .before .before .before .before .before .before .before .before .before .before .before .before .before .before .before .before .before .before .before .before .before .before .before .before .args .out .now) (c .before .before .before .before .before .before .before .before .before .before .before .before .before .before .before .before .before .before .before .before .before .before .before .before .args .text .now) (roomy-room (c .before .before .before .before .before .before .before .before .before .before .before .before .before .before .before .before .before .before .before .before .before .before .before .before .args .table .now) (c .before .before .before .before .before .before .before .before .before .before .before .before .before .before .before .before .before .before .before .before .before .before .before .before .args .steps .now) (c .before .before .before .before .before .before .before .before .before .before .before .before .before .before .before .before .before .before .before .before .before .before .before .before .args .answers .now) (c .before .before .before .before .before .before .before .before .before .before .before .before .before .before .before .before .before .before .before .before .before .before .before .before .args .out .now) (sym (c .before .before .before .before .before .before .before .before .before .before .before .before .before .before .has-room .ensures) ∙ c .before .before .before .before .before .before .before .before .before .before .before .before .before .if1 .taken)) (c .before .before .before .before .before .before .before .before .reply-text .ensures)
+returns c =
+    let tested = c .before .before .before .before .before .before .before .before .before .before .before .before .before in
+    let s = tested .before .before .before .before .before .before .before .before .before .before .before .args in
+    replied (s .table .now) (s .steps .now) (s .answers .now) (s .out .now) (tested .before .has-room .ensures) (s .text .now) (tested .if1 .taken) (c .before .before .before .before .before .before .before .before .reply-text .ensures)
 
 same-length-5 : tie.Need-same-length-5
 same-length-5 c = search needs
@@ -39,7 +44,9 @@ same-length-8 : tie.Need-same-length-8
 same-length-8 c = search needs
 
 returns-2 : tie.Need-returns-2
-returns-2 c = refused (c .before .before .before .before .before .before .before .before .before .before .before .args .table .now) (c .before .before .before .before .before .before .before .before .before .before .before .args .steps .now) (c .before .before .before .before .before .before .before .before .before .before .before .args .answers .now) (c .before .before .before .before .before .before .before .before .before .before .before .args .out .now) (c .before .before .before .before .before .before .before .before .before .before .before .args .text .now) (sym (c .before .has-room .ensures) ∙ c .if1 .left)
+returns-2 c =
+    let s = c .before .before .before .before .before .before .before .before .before .before .before .args in
+    refused (s .table .now) (s .steps .now) (s .answers .now) (s .out .now) (c .before .has-room .ensures) (s .text .now) (c .if1 .left)
 
 pub reply-spec : {M : Type 1} → statement M
 reply-spec =

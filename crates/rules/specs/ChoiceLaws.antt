@@ -36,6 +36,21 @@ pub guarantee-bits : (g : ℕ) → g < sums → g ≡ bits g
 unfolding all bits weight readYourWrites monotonicReads writesFollowReads monotonicWrites
 guarantee-bits g h = eqb-true g (bits g) (all-at sums (λ k. eqb k (bits k)) refl g h)
 
+same-parity : (a b k : ℕ) → a ≡ 2 * k + b → a % 2 ≡ b % 2
+same-parity a b k e = omega arith
+
+-- Of any number, in range or not, the four are its lowest bits.
+pub guarantee-bits-any : (g : ℕ) → bits g ≡ g % 16
+unfolding bits weight readYourWrites monotonicReads writesFollowReads monotonicWrites
+guarantee-bits-any g =
+    let e₁ : g % 2 ≡ g % 16 % 2 = omega arith in
+    let e₂ : g / 2 % 2 ≡ g % 16 / 2 % 2 = same-parity (g / 2) (g % 16 / 2) (4 * (g / 16)) (omega arith) in
+    let e₄ : g / 4 % 2 ≡ g % 16 / 4 % 2 = same-parity (g / 4) (g % 16 / 4) (2 * (g / 16)) (omega arith) in
+    let e₈ : g / 8 % 2 ≡ g % 16 / 8 % 2 = same-parity (g / 8) (g % 16 / 8) (1 * (g / 16)) (omega arith) in
+    let w : ℕ → ℕ → ℕ = λ bit r. weight (eqb r 1) bit in
+    ap₂ (λ a b. a + b) (ap₂ (λ a b. a + b) (ap₂ (λ a b. a + b) (ap (w 1) e₁) (ap (w 2) e₂)) (ap (w 4) e₄)) (ap (w 8) e₈)
+    ∙ sym (guarantee-bits (g % 16) (omega arith))
+
 -- ---- the bits of a reach set
 
 -- The sum of the bits of those servers below n that are in the set, 2 to the power of i for server i.

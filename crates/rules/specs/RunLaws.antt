@@ -131,11 +131,18 @@ run-empty t = refl
 
 -- ---- one promise, one result
 
--- Two results that the promise of a step allows are equal.
+-- What the definitions give keeps the promises,
+pub step-keeps : (t : List ℕ) (x : Step) → StepPromise t x (step t x .answer) (step t x .table)
+step-keeps t x = record { answer-is = refl; table-is = refl }
+
+pub run-keeps : (t steps answers : List ℕ) → RunPromise t steps answers (run t steps answers .code) (run t steps answers .table) (run t steps answers .answers)
+run-keeps t steps answers = record { code-is = refl; table-is = refl; answers-are = refl }
+
+-- and nothing else does: two results that the promise of a step allows are equal,
 pub step-settled : (t : List ℕ) (x : Step) (r₁ r₂ : Answer) (l₁ l₂ : List ℕ) → StepPromise t x r₁ l₁ → StepPromise t x r₂ l₂ → (r₁ ≡ r₂) × (l₁ ≡ l₂)
 step-settled t x r₁ r₂ l₁ l₂ p q = (p .answer-is ∙ sym (q .answer-is), p .table-is ∙ sym (q .table-is))
 
--- Two results that the promise of a run allows are equal.
+-- and two that the promise of a run allows.
 pub run-settled : (t steps answers : List ℕ) (c₁ c₂ : ℕ) (l₁ l₂ a₁ a₂ : List ℕ) → RunPromise t steps answers c₁ l₁ a₁ → RunPromise t steps answers c₂ l₂ a₂
     → (c₁ ≡ c₂) × (l₁ ≡ l₂) × (a₁ ≡ a₂)
 run-settled t steps answers c₁ c₂ l₁ l₂ a₁ a₂ p q =

@@ -12,6 +12,7 @@ use Rattle.lines.specs.declared.Place.{Place}
 use Rattle.lines.specs.declared.Place.the-variants as place
 use Rattle.lines.specs.declared.Line.{Line}
 use Rattle.lines.specs.declared.Line.the-variants as line
+use Rattle.lines.specs.declared.Reader.{Reader}
 
 -- A number and the text behind it, or none.
 abbrev pub numberIn : List ℕ → Number → Option (Got ℕ)
@@ -55,3 +56,12 @@ LineWithin text line.Bad = Unit {0}
 pub record LinePromise (text : List ℕ) (found : Option (Got Step)) (r : Line) : Type 0 where
   pub found-is : lineIn text r ≡ found
   pub within : LineWithin text r
+
+-- Where a reader stands once it has read a line: behind it, or where it stood if the line is bad.
+abbrev pub placeBehind : Line → ℕ → ℕ
+placeBehind (line.Good kind a b c d next) at = next
+placeBehind line.Bad at = at
+
+-- The same text, at that place.
+abbrev pub movedBehind : Line → Reader → Reader
+movedBehind l r = record { text = r .text; at = placeBehind l (r .at) }

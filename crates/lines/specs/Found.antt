@@ -4,8 +4,9 @@ use mathlib.Core.List.{List}
 use mathlib.Core.Option.{Option, none, some}
 use mathlib.Core.Path.{_≡_}
 use lib.ListN.{length, take, drop}
+use denote.Ref.{now}
 use Rattle.rules.specs.Step.{Step}
-use Rattle.lines.specs.Read.{Got, readFields}
+use Rattle.lines.specs.Read.{Got, readFields, readLine}
 use Rattle.lines.specs.declared.Number.{Number}
 use Rattle.lines.specs.declared.Number.the-variants as number
 use Rattle.lines.specs.declared.Place.{Place}
@@ -65,3 +66,8 @@ placeBehind line.Bad at = at
 -- The same text, at that place.
 abbrev pub movedBehind : Line → Reader → Reader
 movedBehind l r = record { text = r .text; at = placeBehind l (r .at) }
+
+-- The promise of a reader's step: the line is the one where the reader stood, and the reader has moved behind it.
+pub record NextPromise (before : Reader) (l : Line) (after : Reader) : Type 0 where
+  pub line-is : LinePromise (now (before .text)) (readLine (now (before .text)) (before .at)) l
+  pub moved-is : after ≡ movedBehind l before

@@ -1,7 +1,7 @@
 // The lines of a script: numbers and steps as text. The text is defined in specs/Line.antt, what reading it finds in specs/Read.antt.
 ghost use mathlib.Core.Path.{_≡_};
 ghost use Rattle.lines.specs.Read.{readLine};
-ghost use Rattle.lines.specs.Found.{LinePromise, movedBehind};
+ghost use Rattle.lines.specs.Found.{LinePromise, NextPromise};
 
 pub mod reading;
 
@@ -45,7 +45,7 @@ pub fn new<'a>(text: &'a [u8], at: usize) -> Reader<'a>
 
 // The line where the reader stands. The reader moves on behind it; where the line is bad it stays.
 pub fn next<'s, 'a>(r: &'s mut Reader<'a>) -> Line
-    ensures { λ l. ⌜ LinePromise (now (now (r .entry) .text)) (readLine (now (now (r .entry) .text)) (now (r .entry) .at)) l × (now (r .exit) ≡ movedBehind l (now (r .entry))) ⌝ }
+    ensures { λ l. ⌜ NextPromise (now (r .entry)) l (now (r .exit)) ⌝ }
 {
     let at = r.at;
     let line = reading::line_at(r.text, at);

@@ -34,11 +34,10 @@ use denote.Triple.Spec.{Meets, tripleOf}
 use denote.Triple.Table.{entered, cited}
 use denote.Triple.Walked.{says, walkOf, Walks, ends-at, walked, walk-meets}
 use denote.Triple.Clauses.{ensured, lasts}
-use Rattle.lines.specs.Found.{movedBehind}
 use Rattle.lines.specs.declared.Reader.{Reader}
 use Rattle.lines.specs.declared.Line.{Line}
 use Rattle.lines.proofs.Passed.{val, Own, bound, IsLine, stayed, entry, gone, asks, own-twice}
-use Rattle.lines.proofs.Lent.{Next, Local, Cell, Held, to-next, Kept, goes, comes}
+use Rattle.lines.proofs.Lent.{Next, Local, to-next, Kept, goes, Back, comes}
 use Rattle.lines.proofs.Reader as T
 use Rattle.lines.proofs.Reader.Laws as T′
 use Rattle.lines.proofs.Line as S
@@ -102,14 +101,14 @@ module _ {M : Type 1} (𝓤 : URA M) (H : Heap 𝓤) (A : Atoms 𝓤) (W : Given
         -- the reader is lent to `next`, and comes back
         move ! (1 ∷ []) $ split ! $ move ! (8 ∷ 2 ∷ 0 ∷ []) $ use3 W (later (some (λ (loan : ℕ × GName). raw (Next 𝓤 H A mem run .pre (to-next 𝓤 H A W mem run κ q l₃ r loan)) ⊛ Kept 𝓤 H A W mem run κ q l₃ r loan))) (goes 𝓤 H A W mem run κ q l₃ r) $ await ! tt $ pick ! (λ loan. split ! $
         calls-at ! fm (Next 𝓤 H A mem run) known-next (to-next 𝓤 H A W mem run κ q l₃ r loan) (and-then ! (load ! (from ! (stop !)) (look ! 4 refl)) (no-more !)) (λ u′.
-        use2 W (later (some (λ (t : Line). given (IsLine (r .text) (r .at) t) (‵ (S.the-row .own t (u′ ∷ [])) ⊛ ‵ (Cell l₃ (movedBehind t r)) ⊛ ‵ (Held κ (movedBehind t r)) ⊛ ‵ (flft κ q))))) (comes 𝓤 H A W mem run κ q l₃ r loan u′) $ await ! tt $ pick ! (λ t. learn ! (λ e′.
+        use2 W (later (some (λ (m : Line × Reader). Back 𝓤 H A W mem run κ q l₃ r u′ m))) (comes 𝓤 H A W mem run κ q l₃ r loan u′) $ await ! tt $ pick ! (λ m. learn ! (λ e′.
         split ! $ move ! (1 ∷ []) $ split ! $ move ! (1 ∷ []) $ split ! $ drop ! $ move ! (2 ∷ []) $
         -- [the line; the token; _3; true; what s and n own; _5; …; _4; …; that _3 dies; _2; …; _1; …; room for _0; …]
-        peeks ! S.the-row (Is S.the-row) (shows 𝓤 H A S.the-row) t (u′ ∷ []) (λ is′.
-        land ! (from ! (stop !)) (init ! 14 refl (EL.lawful S.the-type S′.the-laws 𝓤 H A W tt .typed t _ is′ .0)) $
+        peeks ! S.the-row (Is S.the-row) (shows 𝓤 H A S.the-row) (m .0) (u′ ∷ []) (λ is′.
+        land ! (from ! (stop !)) (init ! 14 refl (EL.lawful S.the-type S′.the-laws 𝓤 H A W tt .typed (m .0) _ is′ .0)) $
         returns ! (look ! 14 refl) $ forget ! 2 refl $ forget ! 5 refl $ forget ! 7 refl $ forget ! 10 refl $ forget ! 12 refl $ forget ! 14 refl $
         move ! (14 ∷ 15 ∷ []) $ free1 ! $ move ! (12 ∷ 13 ∷ []) $ free1 ! $ move ! (10 ∷ 11 ∷ []) $ free1 ! $ move ! (2 ∷ 9 ∷ []) $ free1 ! $ move ! (6 ∷ 7 ∷ []) $ free1 ! $ move ! (4 ∷ 5 ∷ []) $ free1 ! $ free0 ! $
-        move ! (1 ∷ 2 ∷ []) $ join ! $ move ! (1 ∷ 0 ∷ []) $ by ! (exits t u′ (subst₂ (λ (x : RefT (List ℕ)) (i : ℕ). IsLine x i t) (e .0) (e .1) e′)))))))))))))))))
+        move ! (1 ∷ 2 ∷ []) $ join ! $ move ! (1 ∷ 0 ∷ []) $ by ! (exits (m .0) u′ (subst₂ (λ (x : RefT (List ℕ)) (i : ℕ). IsLine x i (m .0)) (e .0) (e .1) (e′ .line-is))))))))))))))))))
       where
         -- what the machine value that `new` returns is
         typed : (r : Reader) (u : Val) → Is (Local κ) r (u ∷ []) → Holds (hasTy (T′.mir erased) u) × WT u

@@ -15,7 +15,7 @@ returns : tie.Need-returns
 returns c = sym (ap (λ l. placeBehind l (c .before .before .before .args .at)) (c .before .line .given .1))
 
 returns-2 : tie.Need-returns-2
-returns-2 c = search needs
+returns-2 c = sym (ap (λ l. placeBehind l (c .before .before .args .at)) (c .enum-told .given .1))
 
 pub place-behind-spec : {M : Type 1} → statement M
 place-behind-spec = tie.close (tie.spec enum-known-line enum-told returns returns-2)

@@ -4,7 +4,7 @@ use mathlib.Core.List.{List}
 use mathlib.Core.Option.{Option, none, some}
 use mathlib.Core.Path.{_≡_}
 use lib.ListN.{length, take, drop}
-use denote.Ref.{now}
+use denote.Ref.{RefT, now}
 use Rattle.rules.specs.Step.{Step}
 use Rattle.lines.specs.Read.{Got, readFields, readLine}
 use Rattle.lines.specs.declared.Number.{Number}
@@ -57,6 +57,11 @@ LineWithin text line.Bad = Unit {0}
 pub record LinePromise (text : List ℕ) (found : Option (Got Step)) (r : Line) : Type 0 where
   pub found-is : lineIn text r ≡ found
   pub within : LineWithin text r
+
+-- The promise of what makes a reader: it holds the text and stands at the place.
+pub record NewPromise (text : RefT (List ℕ)) (at : ℕ) (r : Reader) : Type 0 where
+  pub text-is : r .text ≡ text
+  pub at-is : r .at ≡ at
 
 -- Where a reader stands once it has read a line: behind it, or where it stood if the line is bad.
 abbrev pub placeBehind : Line → ℕ → ℕ

@@ -1,7 +1,6 @@
 // The lines of a script: numbers and steps as text. The text is defined in specs/Line.antt, what reading it finds in specs/Read.antt.
-ghost use mathlib.Core.Path.{_≡_};
 ghost use Rattle.lines.specs.Read.{readLine};
-ghost use Rattle.lines.specs.Found.{LinePromise, NextPromise};
+ghost use Rattle.lines.specs.Found.{LinePromise, NewPromise, NextPromise};
 
 pub mod reading;
 
@@ -38,7 +37,7 @@ pub struct Reader<'a> {
 
 // A reader at a place of a text.
 pub fn new<'a>(text: &'a [u8], at: usize) -> Reader<'a>
-    ensures { λ r. ⌜ (r .text ≡ text .entry) × (r .at ≡ at) ⌝ }
+    ensures { λ r. ⌜ NewPromise (text .entry) at r ⌝ }
 {
     Reader { text, at }
 }

@@ -7,10 +7,12 @@ use native.Mathlib.Omega.{arith}
 use borrow.Author.Tests.{eqb-true, eqb-false, eq-eqb, ne-eqb, ltb-true, ltb-false}
 use lib.Dec.{eqb}
 use lib.ListN.{length, drop}
+use denote.Ref.{RefT, now}
 use Rattle.words.specs.TestLaws.{cond-true, cond-false, true-not-false}
 use Rattle.words.specs.Lists.{splice}
 use Rattle.lines.specs.Read.{readLine}
-use Rattle.lines.specs.Found.{LinePromise, placeBehind}
+use Rattle.lines.specs.Found.{LinePromise, placeBehind, NextPromise}
+use Rattle.lines.specs.declared.Reader.{Reader}
 use Rattle.lines.specs.declared.Line.{Line}
 use Rattle.lines.specs.declared.Line.the-variants as line
 use Rattle.script.specs.Reply.{mostSteps}
@@ -86,6 +88,13 @@ module _ (text : List ℕ) (from : ℕ) where
       go false e = walked-behind (so .1) there (omega (arith, so .0, eqb-false count mostSteps e)) wide l found
   walked-on at words (BadBehind count) so h wide l found = so
   walked-on at words Longer so h wide l found = so
+
+-- By the promises of the code: the line is the one where the reader stood, and it is put behind the others.
+pub walked-next : (text : RefT (List ℕ)) (from : ℕ) (before : Reader) (words : List ℕ) (listed : Listed) → before .text ≡ text → Walked (now text) from (before .at) listed words → goesOn listed (before .at) (length (now text)) ≡ true
+    → 2560 ≤ length words → (l : Line) (after : Reader) → NextPromise before l after → (r : Listed) (left : List ℕ) → PutPromise words listed l r left → Walked (now text) from (after .at) r left
+walked-next text from before words listed is so more wide l after moved r left put =
+    subst (λ (x : ℕ × (Listed × List ℕ)). Walked (now text) from (x .0) (x .1 .0) (x .1 .1)) (λ i. (sym (ap (λ h. h .at) (moved .moved-is)) i, (sym (put .answer-is) i, sym (put .words-are) i)))
+    (walked-on (now text) from (before .at) words listed so more wide l (subst (λ (t : RefT (List ℕ)). LinePromise (now t) (readLine (now t) (before .at)) l) is (moved .line-is)))
 
 -- ---- the walk ends
 

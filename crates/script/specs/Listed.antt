@@ -56,8 +56,8 @@ pub record PutPromise (words : List ℕ) (listed : Listed) (l : Line) (r : Liste
   pub answer-is : r ≡ answerWith listed l
   pub words-are : left ≡ wordsWith words listed l
 
--- Is there a next line to be listed, in a text of this length that is read up to a place?
+-- Is there a next line to be listed, in a text of so many bytes that is read up to a place?
 abbrev pub goesOn : Listed → ℕ → ℕ → Bool
-goesOn (Whole count) at long = ltb at long
-goesOn (BadBehind count) at long = false
-goesOn Longer at long = false
+goesOn (Whole count) at bytes = ltb at bytes
+goesOn (BadBehind count) at bytes = false
+goesOn Longer at bytes = false

@@ -108,11 +108,11 @@ left-behind : (count : ℕ) (l : Line) → count ≤ mostSteps → linesLeft (an
 left-behind count (line.Good kind a b c d next) few = omega arith
 left-behind count line.Bad few = omega arith
 
-pub left-less : (at long : ℕ) (listed : Listed) (l : Line) → Few listed → goesOn listed at long ≡ true → linesLeft (answerWith listed l) < linesLeft listed
-left-less at long (Whole count) l few h = go (eqb count mostSteps)
+pub left-less : (at bytes : ℕ) (listed : Listed) (l : Line) → Few listed → goesOn listed at bytes ≡ true → linesLeft (answerWith listed l) < linesLeft listed
+left-less at bytes (Whole count) l few h = go (eqb count mostSteps)
   where
     go : (t : Bool) → linesLeft (cond t Longer (answerBehind count l)) < suc mostSteps - count
     go true = omega arith
     go false = left-behind count l few
-left-less at long (BadBehind count) l few h = true-not-false h refl
-left-less at long Longer l few h = true-not-false h refl
+left-less at bytes (BadBehind count) l few h = true-not-false h refl
+left-less at bytes Longer l few h = true-not-false h refl

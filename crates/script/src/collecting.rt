@@ -64,12 +64,12 @@ fn put_line(steps: &mut [u32], listed: Listed, line: Line) -> Listed
     }
 }
 
-// Is there a next line to be listed? A text of this length is read up to the place.
-fn goes_on(listed: Listed, at: usize, length: usize) -> bool
-    ensures { λ r. ⌜ r ≡ goesOn listed at length ⌝ }
+// Is there a next line to be listed, in a text of so many bytes that is read up to a place?
+fn goes_on(listed: Listed, at: usize, bytes: usize) -> bool
+    ensures { λ r. ⌜ r ≡ goesOn listed at bytes ⌝ }
 {
     match listed {
-        Listed::Whole(_) => at < length,
+        Listed::Whole(_) => at < bytes,
         Listed::BadBehind(_) => false,
         Listed::Longer => false,
     }

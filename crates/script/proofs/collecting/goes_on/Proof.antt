@@ -15,13 +15,13 @@ enum-told-3 : tie.Need-enum-told-3
 enum-told-3 c = search needs
 
 returns : tie.Need-returns
-returns c = sym (ap (λ l. goesOn l (c .before .before .args .at) (c .before .before .args .length)) (c .enum-told .given .1))
+returns c = sym (ap (λ l. goesOn l (c .before .before .args .at) (c .before .before .args .bytes)) (c .enum-told .given .1))
 
 returns-2 : tie.Need-returns-2
-returns-2 c = sym (ap (λ l. goesOn l (c .before .before .args .at) (c .before .before .args .length)) (c .enum-told2 .given .1))
+returns-2 c = sym (ap (λ l. goesOn l (c .before .before .args .at) (c .before .before .args .bytes)) (c .enum-told2 .given .1))
 
 returns-3 : tie.Need-returns-3
-returns-3 c = sym (ap (λ l. goesOn l (c .before .before .args .at) (c .before .before .args .length)) (c .enum-told3 .given .1))
+returns-3 c = sym (ap (λ l. goesOn l (c .before .before .args .at) (c .before .before .args .bytes)) (c .enum-told3 .given .1))
 
 pub goes-on-spec : {M : Type 1} → statement M
 goes-on-spec = tie.close (tie.spec enum-told enum-told-2 enum-told-3 returns returns-2 returns-3)

@@ -19,7 +19,7 @@ use base.Fml.{GName, Lft, Share, Fml, ftrue, fsep, fat, flft, fdead, flent}
 use prog.Memory.{Memory}
 use prog.Routine.{Routine}
 use prog.Wp.{Heap}
-use ghost.Atoms.{Atoms, sem}
+use ghost.Atoms.{Atoms}
 use contract.BorrowLft.{meet-⊑-right}
 use contract.Monad.{Fun, fact}
 use types.Kit.{Given, Item, ‵, raw, _⊛_, given, mean, ⋆, some, later, _$_, _∵_, !, qed, move, keep, use1, use2, use3, split, join, pick, check, fsplit, fjoin, fpick, fpack, frame, await, updating, now as at-once, show, done}

@@ -13,19 +13,18 @@ use prog.Wp.{Heap}
 use ghost.Atoms.{Atoms, sem}
 use contract.Lifetimes.{Lfts, Shares, toks}
 use types.Kit.{Given, ‵, _⊛_, _$_, _∵_, !, qed, join, frame, done}
-use denote.RattleType.{RattleType, owns}
+use denote.RattleType.{owns}
 use denote.Plain.{uint-copy}
 use denote.Builtin.{u8, usize}
 use denote.Exit.{yes}
 use denote.Ref.{RefT, now}
-use denote.Signature.{Slot, plain, shrSliceOf, namedLft}
+use denote.Signature.{Slot, plain, shrSliceOf}
 use denote.Slice.{sliceVal, ShrSlice, shr-slice-copy}
 use denote.Struct.Struct.{twices}
 use denote.Triple.Walked.{Stays, stay-none, stay-none-slice, AllGo, goes-none, goes-none-slice}
 use Rattle.lines.specs.Read.{readLine}
 use Rattle.lines.specs.Found.{LinePromise}
 use Rattle.lines.specs.declared.Line.{Line}
-use Rattle.lines.proofs.Reader as T
 
 -- the machine value of a text, and those of a text and a place
 abbrev pub val : RefT (List ℕ) → Val
@@ -41,10 +40,6 @@ Own κ s n = owns (ShrSlice (named 0) κ u8 ∷ usize ∷ []) (s, (n, tt)) (vals
 -- what a contract binds outside its triple
 abbrev pub bound : Lft → Share → RefT (List ℕ) → ℕ → (Lfts 1 × Shares 1 × Unit {0} × (RefT (List ℕ) × (ℕ × Unit {0})) × (List Val × (List Val × Unit {0}))) × Unit {0}
 bound κ q s n = (((κ, tt), (q, tt), tt, (s, (n, tt)), vals s n), tt)
-
--- the type of the struct of both, over a signature's lifetimes
-abbrev pub ReaderOf : Lfts 1 → RattleType
-ReaderOf κs = T.the-row (namedLft 1 0 tt κs)
 
 -- a result that is the line there
 abbrev pub IsLine : RefT (List ℕ) → ℕ → Line → Type 0

@@ -4,14 +4,16 @@ use mathlib.Core.List.{List}
 use mathlib.Core.Option.{Option, none, some}
 use mathlib.Core.Path.{_≡_}
 use lib.ListN.{length, take, drop}
+use denote.Ref.{RefT, now}
 use Rattle.rules.specs.Step.{Step}
-use Rattle.lines.specs.Read.{Got, readFields}
+use Rattle.lines.specs.Read.{Got, readFields, readLine}
 use Rattle.lines.specs.declared.Number.{Number}
 use Rattle.lines.specs.declared.Number.the-variants as number
 use Rattle.lines.specs.declared.Place.{Place}
 use Rattle.lines.specs.declared.Place.the-variants as place
 use Rattle.lines.specs.declared.Line.{Line}
 use Rattle.lines.specs.declared.Line.the-variants as line
+use Rattle.lines.specs.declared.Reader.{Reader}
 
 -- A number and the text behind it, or none.
 abbrev pub numberIn : List ℕ → Number → Option (Got ℕ)
@@ -55,3 +57,22 @@ LineWithin text line.Bad = Unit {0}
 pub record LinePromise (text : List ℕ) (found : Option (Got Step)) (r : Line) : Type 0 where
   pub found-is : lineIn text r ≡ found
   pub within : LineWithin text r
+
+-- The promise of what makes a reader: it holds the text and stands at the place.
+pub record NewPromise (text : RefT (List ℕ)) (at : ℕ) (r : Reader) : Type 0 where
+  pub text-is : r .text ≡ text
+  pub at-is : r .at ≡ at
+
+-- Where a reader stands once it has read a line: behind it, or where it stood if the line is bad.
+abbrev pub placeBehind : Line → ℕ → ℕ
+placeBehind (line.Good kind a b c d next) at = next
+placeBehind line.Bad at = at
+
+-- The same text, at that place.
+abbrev pub movedBehind : Line → Reader → Reader
+movedBehind l r = record { text = r .text; at = placeBehind l (r .at) }
+
+-- The promise of a reader's step: the line is the one where the reader stood, and the reader has moved behind it.
+pub record NextPromise (before : Reader) (l : Line) (after : Reader) : Type 0 where
+  pub line-is : LinePromise (now (before .text)) (readLine (now (before .text)) (before .at)) l
+  pub moved-is : after ≡ movedBehind l before

@@ -9,12 +9,13 @@ use borrow.Author.Tests.{eqb-true, eq-eqb, ne-eqb}
 use lib.Dec.{eqb}
 use lib.ListN.{length, getD, take, drop, replicate, length-drop}
 use lib.Seq.{getD-drop}
+use denote.Ref.{now}
 use Rattle.words.specs.Tests.{zeros}
 use Rattle.words.specs.TestLaws.{cond-true, cond-false, and-left, and-right, replicate-zeros}
 use Rattle.words.specs.SpliceLaws.{zeros-drop}
 use Rattle.rules.specs.Step.{Step}
 use Rattle.lines.specs.Read.{Got, chain, readNumber, readFields, kindOf, countOf, stepWith, readArguments, readStep, readSizesBehind, readSizes, readLine}
-use Rattle.lines.specs.Found.{numberIn, NumberPromise, fieldsIn, PlaceWithin, FieldsPromise, lineIn, LineWithin, LinePromise}
+use Rattle.lines.specs.Found.{numberIn, NumberPromise, fieldsIn, PlaceWithin, FieldsPromise, lineIn, LineWithin, LinePromise, NextPromise}
 use Rattle.lines.specs.FoundLaws.{byte-there, nothing-there}
 use Rattle.lines.specs.declared.Number.{Number}
 use Rattle.lines.specs.declared.Number.the-variants as number
@@ -22,6 +23,7 @@ use Rattle.lines.specs.declared.Place.{Place}
 use Rattle.lines.specs.declared.Place.the-variants as place
 use Rattle.lines.specs.declared.Line.{Line}
 use Rattle.lines.specs.declared.Line.the-variants as line
+use Rattle.lines.specs.declared.Reader.{Reader}
 
 -- ---- words of which the last are 0
 
@@ -154,3 +156,10 @@ same-line text line.Bad line.Bad e w w′ = refl
 
 pub line-settled : (text : List ℕ) {found : Option (Got Step)} (r s : Line) → LinePromise text found r → LinePromise text found s → r ≡ s
 line-settled text r s p q = same-line text r s (p .found-is ∙ sym (q .found-is)) (p .within) (q .within)
+
+-- So the promise of a reader's step settles the line and the reader.
+pub next-settled : (before : Reader) {l l′ : Line} {after after′ : Reader} → NextPromise before l after → NextPromise before l′ after′ → (l ≡ l′) × (after ≡ after′)
+next-settled before {l} {l′} {after} p q =
+    let e = line-settled (now (before .text)) l l′ (p .line-is) (q .line-is) in
+    let same : NextPromise before l′ after = subst (λ (x : Line). NextPromise before x after) e p in
+    (e, same .moved-is ∙ sym (q .moved-is))

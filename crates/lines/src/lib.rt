@@ -1,7 +1,6 @@
 // The lines of a script: numbers and steps as text. The text is defined in specs/Line.antt, what reading it finds in specs/Read.antt.
-ghost use mathlib.Core.Path.{_≡_};
 ghost use Rattle.lines.specs.Read.{readLine};
-ghost use Rattle.lines.specs.Found.{LinePromise};
+ghost use Rattle.lines.specs.Found.{LinePromise, NewPromise, NextPromise};
 
 pub mod reading;
 
@@ -38,21 +37,25 @@ pub struct Reader<'a> {
 
 // A reader at a place of a text.
 pub fn new<'a>(text: &'a [u8], at: usize) -> Reader<'a>
-    ensures { λ r. ⌜ (r .text ≡ text .entry) × (r .at ≡ at) ⌝ }
+    ensures { λ r. ⌜ NewPromise (text .entry) at r ⌝ }
 {
     Reader { text, at }
 }
 
-// The line where the reader stands.
-pub fn next<'a>(r: Reader<'a>) -> Line
-    ensures { λ l. ⌜ LinePromise (now (r .entry .text)) (readLine (now (r .entry .text)) (r .entry .at)) l ⌝ }
+// The line where the reader stands. The reader moves on behind it; where the line is bad it stays.
+pub fn next<'s, 'a>(r: &'s mut Reader<'a>) -> Line
+    ensures { λ l. ⌜ NextPromise (now (r .entry)) l (now (r .exit)) ⌝ }
 {
-    reading::line_at(r.text, r.at)
+    let at = r.at;
+    let line = reading::line_at(r.text, at);
+    r.at = reading::place_behind(line, at);
+    line
 }
 
 // The line at a place of a text: at its start the sizes, elsewhere a step.
 pub fn read_line(text: &[u8], at: usize) -> Line
     ensures { λ l. ⌜ LinePromise (now (text .entry)) (readLine (now (text .entry)) at) l ⌝ }
 {
-    next(new(text, at))
+    let mut r = new(text, at);
+    next(&mut r)
 }

@@ -3,7 +3,7 @@ ghost use mathlib.Core.Path.{_≡_};
 ghost use Prim.Native.Nat.{_≤_};
 ghost use lib.ListN.{length, drop};
 ghost use Rattle.lines.specs.Read.{begins, isDigit, more, readNumber, readField, kindOf, countOf, readStep, readSizesBehind, readSizes, readLine};
-ghost use Rattle.lines.specs.Found.{NumberPromise, FieldsPromise, LinePromise};
+ghost use Rattle.lines.specs.Found.{NumberPromise, FieldsPromise, LinePromise, placeBehind};
 use crate::Line;
 use crate::Number;
 use crate::Place;
@@ -189,4 +189,14 @@ pub fn line_at(text: &[u8], at: usize) -> Line
         return sizes_at_start(text);
     }
     step_at(text, at)
+}
+
+// Where the text goes on behind a line that was read at a place. Behind a bad one it does not.
+pub fn place_behind(line: Line, at: usize) -> usize
+    ensures { λ r. ⌜ r ≡ placeBehind line at ⌝ }
+{
+    match line {
+        Line::Good { next, .. } => next,
+        Line::Bad => at,
+    }
 }

@@ -5,6 +5,7 @@ pub mod ReplyLaws
 pub mod TenLines
 pub mod Listed
 pub mod ListedLaws
+pub mod WalkedLaws
 pub mod Promised
 pub mod FreshLaws
 pub mod PromisedLaws

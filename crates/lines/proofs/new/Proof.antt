@@ -51,7 +51,7 @@ module _ {M : Type 1} (𝓤 : URA M) (H : Heap 𝓤) (A : Atoms 𝓤) (W : Given
   exits : ent 𝓤 (entry 𝓤 H A κ q s n) (Post (T′.lowered made))
   exits =
       qed W ((‵ (flft κ q) ⊛ ‵ ftrue) ∷ ‵ (Own κ s n) ∷ []) ∵
-      suffices ! _ (ends-at 𝓤 H A new.ended stayed (new.clauses 𝓤 H A mem run) W (bound κ q s n) (T′.lowered made) made (tt, (tt, tt)) (tt, (tt, tt))) $ says ! (refl, refl) $
+      suffices ! _ (ends-at 𝓤 H A new.ended stayed (new.clauses 𝓤 H A mem run) W (bound κ q s n) (T′.lowered made) made (tt, (tt, tt)) (tt, (tt, tt))) $ says ! (record { text-is = refl; at-is = refl }) $
       frame ! $ use1 W (‵ (Own κ s n) ⊛ ‵ (Own κ s n)) (own-twice 𝓤 H A W κ s n) $ split ! $ frame ! $
       -- [what both own]: it is what the struct owns
       by ! (own-shut 𝓤 H A W (T.the-type α) (T′.the-laws α) (s, (n, tt)))

@@ -2,7 +2,7 @@
 use Prim.Native.Nat.{ℕ, suc, _+_, _-_, _*_, _≤_, _<_}
 use mathlib.Core.Bool.{true, false}
 use mathlib.Core.List.{List, [], _∷_, _++_, append-assoc}
-use mathlib.Core.Option.{Option, some}
+use mathlib.Core.Option.{some}
 use mathlib.Core.Path.{_≡_, refl, sym, _∙_, ap}
 use native.Mathlib.Omega.{arith}
 use lib.ListN.{length, take, drop, length-append, length-drop, take-append-drop, drop-of-length-le}
@@ -13,7 +13,7 @@ use Rattle.words.specs.PartLaws.{splice-middle}
 use Rattle.tables.specs.Size.{Size}
 use Rattle.rules.specs.Step.{Step, stepsOf, stepWords}
 use Rattle.rules.specs.RunLaws.{stepsOf-stepWords, length-stepWords}
-use Rattle.lines.specs.Read.{Got, readStep, readSizes, readLine}
+use Rattle.lines.specs.Read.{readStep, readSizes, readLine}
 use Rattle.lines.specs.ReadLaws.{read-step-shorter, read-sizes-shorter}
 use Rattle.lines.specs.Found.{lineIn, LinePromise}
 use Rattle.lines.specs.LineLaws.{line-first, line-later}
@@ -90,45 +90,44 @@ module _ (text : List ℕ) (z : Size) where
           fits = tt;
         }
 
-    module _ (h : at < length text) (few : count < mostSteps) {r : Line} (found : LinePromise text (readLine text at) r) where
+    module _ (h : at < length text) (few : count < mostSteps) where
       room : mostSteps - count ≡ suc (mostSteps - (count + 1))
       room = omega arith
 
-      is-step : {o : Option (Got Step)} → lineIn text r ≡ o → readStep (drop at text) ≡ o
-      is-step e = line-later text at (λ z. omega (arith, so .later)) ∙ (sym (found .found-is) ∙ e)
+      is-step : {r : Line} → LinePromise text (readLine text at) r → readStep (drop at text) ≡ lineIn text r
+      is-step found = line-later text at (λ start. omega (arith, so .later)) ∙ sym (found .found-is)
 
       -- The next line is bad,
-      pub listing-bad : r ≡ line.Bad → ListedPromise text (BadAt (count + 2)) words
+      pub listing-bad : LinePromise text (readLine text at) line.Bad → ListedPromise text (BadAt (count + 2)) words
       unfolding push
-      listing-bad e =
+      listing-bad found =
           record {
             found-is =
                 ap some (ap (λ k. badAt (k + 2)) (sym (so .count-is))
                 ∙ (sym (pushAll-as (λ xs. badAt (length xs + 2)) bad-further (so .steps))
-                ∙ (ap (pushAll (so .steps)) (sym (ap (λ m. collect z m (drop at text)) room ∙ collect-unread z (mostSteps - (count + 1)) (drop at text) (there h) (is-step (ap (lineIn text) e))))
+                ∙ (ap (pushAll (so .steps)) (sym (ap (λ m. collect z m (drop at text)) room ∙ collect-unread z (mostSteps - (count + 1)) (drop at text) (there h) (is-step found)))
                 ∙ so .so-far)));
             fits = tt;
           }
 
       -- or one step more.
-      pub listing-on : {kind a b c d next : ℕ} → r ≡ line.Good kind a b c d next → {left : List ℕ} → 2560 ≤ length words → left ≡ splice (count * 5) 5 words (kind ∷ a ∷ b ∷ c ∷ d ∷ [])
-          → Listing (count + 1) left next
+      pub listing-on : {kind a b c d next : ℕ} → LinePromise text (readLine text at) (line.Good kind a b c d next) → 2560 ≤ length words
+          → Listing (count + 1) (splice (count * 5) 5 words (kind ∷ a ∷ b ∷ c ∷ d ∷ [])) next
       unfolding stepWords
-      listing-on {kind} {a} {b} {c} {d} {next} e {left} wide is =
+      listing-on {kind} {a} {b} {c} {d} {next} found wide =
           let x : Step = record { kind = kind; a = a; b = b; c = c; d = d } in
-          let read = is-step (ap (lineIn text) e) in
+          let read = is-step found in
           let long = length-append (stepWords (so .steps)) (so .behind) in
           let many = ap length (so .words-are) in
           record {
             steps = so .steps ++ (x ∷ []);
             behind = drop 5 (so .behind);
             words-are =
-                is
-                ∙ (ap (λ ws. splice (count * 5) 5 ws (kind ∷ a ∷ b ∷ c ∷ d ∷ [])) (so .words-are ∙ ap (λ ws. stepWords (so .steps) ++ ws) (sym (take-append-drop 5 (so .behind))))
+                ap (λ ws. splice (count * 5) 5 ws (kind ∷ a ∷ b ∷ c ∷ d ∷ [])) (so .words-are ∙ ap (λ ws. stepWords (so .steps) ++ ws) (sym (take-append-drop 5 (so .behind))))
                 ∙ (splice-middle (stepWords (so .steps)) (take 5 (so .behind)) (drop 5 (so .behind)) (count * 5) 5 (kind ∷ a ∷ b ∷ c ∷ d ∷ []) words-count
                 (length-take-le 5 (so .behind) (omega (arith, long, many, words-count)))
                 ∙ (sym (append-assoc (stepWords (so .steps)) (stepWords (x ∷ [])) (drop 5 (so .behind)))
-                ∙ ap (λ ws. ws ++ drop 5 (so .behind)) (sym (stepWords-append (so .steps) (x ∷ []))))));
+                ∙ ap (λ ws. ws ++ drop 5 (so .behind)) (sym (stepWords-append (so .steps) (x ∷ [])))));
             count-is = length-append (so .steps) (x ∷ []) ∙ ap (λ n. n + 1) (so .count-is);
             so-far =
                 sym (pushAll-more (so .steps) x _)

@@ -95,8 +95,8 @@ module _ (text : List ℕ) where
   -- and behind another.
   walked-behind : {n l p count : ℕ} {words : List ℕ} {at : ℕ} → Walked at (Whole n l p count) words → at < length text → count < mostSteps → 2560 ≤ length words → (read : Line) → LinePromise text (readLine text at) read
       → Walked (placeBehind read at) (answerBehind n l p count read) (wordsBehind words count read)
-  walked-behind so h few wide (line.Good kind a b c d next) found = ((so .0 .0, omega arith), listing-on text _ (so .1) h few found refl wide refl)
-  walked-behind so h few wide line.Bad found = listing-bad text _ (so .1) h few found refl
+  walked-behind so h few wide (line.Good kind a b c d next) found = ((so .0 .0, omega arith), listing-on text _ (so .1) h few found wide)
+  walked-behind so h few wide line.Bad found = listing-bad text _ (so .1) h few found
 
   pub walked-on : (at : ℕ) (words : List ℕ) (listed : Listed) → Walked at listed words → goesOn listed at (length text) ≡ true → 2560 ≤ length words → (read : Line) → LinePromise text (readLine text at) read
       → Walked (placeBehind read at) (answerWith listed read) (wordsWith words listed read)

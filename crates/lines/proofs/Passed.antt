@@ -1,6 +1,5 @@
--- A text and a place, as a function is passed them and as a `Reader` holds them: their machine values, what they own, what a walk has of them at exit, and what is said of the line there.
+-- A text and a place, as a function is passed them and as a `Reader` holds them: their machine values, what they own, and what a callee asks of them.
 -- Assumes nothing.
-use mathlib.Core.Path.{refl}
 use Prim.Native.Nat.{ℕ}
 use mathlib.Core.List.{List, [], _∷_}
 use lib.ListN.{length}
@@ -16,15 +15,9 @@ use types.Kit.{Given, ‵, _⊛_, _$_, _∵_, !, qed, join, frame, done}
 use denote.RattleType.{owns}
 use denote.Plain.{uint-copy}
 use denote.Builtin.{u8, usize}
-use denote.Exit.{yes}
-use denote.Ref.{RefT, now}
-use denote.Signature.{Slot, plain, shrSliceOf}
+use denote.Ref.{RefT}
 use denote.Slice.{sliceVal, ShrSlice, shr-slice-copy}
 use denote.Struct.Struct.{twices}
-use denote.Triple.Walked.{Stays, stay-none, stay-none-slice, AllGo, goes-none, goes-none-slice}
-use Rattle.lines.specs.Read.{readLine}
-use Rattle.lines.specs.Found.{LinePromise}
-use Rattle.lines.specs.declared.Line.{Line}
 
 -- the machine value of a text, and those of a text and a place
 abbrev pub val : RefT (List ℕ) → Val
@@ -41,27 +34,12 @@ Own κ s n = owns (ShrSlice (named 0) κ u8 ∷ usize ∷ []) (s, (n, tt)) (vals
 abbrev pub bound : Lft → Share → RefT (List ℕ) → ℕ → (Lfts 1 × Shares 1 × Unit {0} × (RefT (List ℕ) × (ℕ × Unit {0})) × (List Val × (List Val × Unit {0}))) × Unit {0}
 bound κ q s n = (((κ, tt), (q, tt), tt, (s, (n, tt)), vals s n), tt)
 
--- a result that is the line there
-abbrev pub IsLine : RefT (List ℕ) → ℕ → Line → Type 0
-IsLine s n = LinePromise (now s) (readLine (now s) n)
-
--- both, as places of a signature of one lifetime; at exit they are as they were passed
-abbrev slots : List (Slot 1)
-slots = shrSliceOf (0 ∷ []) tt (plain (λ _. u8)) ∷ plain (λ _. usize) ∷ []
-
-abbrev pub stayed : Stays slots (yes, (yes, tt))
-stayed = (stay-none-slice (0 ∷ []) tt (plain (λ _. u8)) yes, (stay-none (λ _. usize) yes, tt))
-
 module _ {M : Type 1} (𝓤 : URA M) (H : Heap 𝓤) (A : Atoms 𝓤) where
   -- what there is on entry
   abbrev pub entry : Lft → Share → RefT (List ℕ) → ℕ → SProp 𝓤
   entry κ q s n = sep 𝓤 (toks 𝓤 A 1 (κ, tt) (q, tt)) (sem 𝓤 H A (Own κ s n))
 
 module _ {M : Type 1} (𝓤 : URA M) (H : Heap 𝓤) (A : Atoms 𝓤) (W : Given 𝓤 H A) where
-  -- the law for `stayed`
-  abbrev pub gone : AllGo 𝓤 H A W 1 slots (yes, (yes, tt)) stayed
-  gone = (goes-none-slice 𝓤 H A W 1 (0 ∷ []) tt (plain (λ _. u8)) yes, (goes-none 𝓤 H A W 1 (λ _. usize) yes (λ κs x f. refl), tt))
-
   -- what there is on entry is what a callee asks that requires nothing
   pub asks : (κ : Lft) (q : Share) (s : RefT (List ℕ)) (n : ℕ) → ent 𝓤 (entry 𝓤 H A κ q s n) (sep 𝓤 (entry 𝓤 H A κ q s n) (emp 𝓤))
   asks κ q s n = qed W ((‵ (flft κ q) ⊛ ‵ ftrue) ∷ ‵ (Own κ s n) ∷ []) ∵ join ! $ frame ! $ done !

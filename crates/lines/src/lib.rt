@@ -1,6 +1,5 @@
 // The lines of a script: numbers and steps as text. The text is defined in specs/Line.antt, what reading it finds in specs/Read.antt.
-ghost use Rattle.lines.specs.Read.{readLine};
-ghost use Rattle.lines.specs.Found.{LinePromise, NewPromise, NextPromise};
+ghost use Rattle.lines.specs.Found.{NewPromise, NextPromise};
 
 pub mod reading;
 
@@ -50,12 +49,4 @@ pub fn next<'s, 'a>(r: &'s mut Reader<'a>) -> Line
     let line = reading::line_at(r.text, at);
     r.at = reading::place_behind(line, at);
     line
-}
-
-// The line at a place of a text: at its start the sizes, elsewhere a step.
-pub fn read_line(text: &[u8], at: usize) -> Line
-    ensures { λ l. ⌜ LinePromise (now (text .entry)) (readLine (now (text .entry)) at) l ⌝ }
-{
-    let mut r = new(text, at);
-    next(&mut r)
 }

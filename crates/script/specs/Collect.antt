@@ -1,6 +1,6 @@
 -- The reply as the code finds it: the first line, then line after line. ReplyLaws.antt says that this is the one reply of Reply.antt.
 -- Assumes nothing.
-use Prim.Native.Nat.{ℕ, zero, suc, _+_}
+use Prim.Native.Nat.{ℕ, zero, suc}
 use mathlib.Core.Bool.{cond}
 use mathlib.Core.List.{List, [], _∷_}
 use mathlib.Core.Option.{Option, none, some}
@@ -13,47 +13,46 @@ use Rattle.rules.specs.Calls.{walk}
 use Rattle.lines.specs.Read.{Got, readStep, readSizes}
 use Rattle.script.specs.Reply.{mostBytes, mostSteps, admissible, answerLines, tooLong, badLine}
 
--- The steps behind the first line: all of them, or a bad line behind so many good ones, or more lines than there is room for.
+-- What a text says: these sizes and steps, or that the line of this number is bad, or more lines than there is room for.
 pub data Collected : Type 0 where
-  whole : List Step → Collected
-  badBehind : ℕ → Collected
+  whole : Size → List Step → Collected
+  badAt : ℕ → Collected
   longer : Collected
 
--- With one step before.
+-- With the line of one step before.
 unfoldable pub push : Step → Collected → Collected
-push x (whole xs) = whole (x ∷ xs)
-push x (badBehind k) = badBehind (suc k)
+push x (whole z xs) = whole z (x ∷ xs)
+push x (badAt k) = badAt (suc k)
 push x longer = longer
 
+-- The first step stands on line 2.
 unfoldable pub onto : Option (Got Step) → (List ℕ → Collected) → Collected
-onto none further = badBehind 0
+onto none further = badAt 2
 onto (some g) further = push (g .value) (further (g .rest))
 
 -- At the end of the text that is all.
-unfoldable pub unlessEnded : List ℕ → Collected → Collected
-unlessEnded [] further = whole []
-unlessEnded (b ∷ bs) further = further
+unfoldable pub unlessEnded : Size → List ℕ → Collected → Collected
+unlessEnded z [] further = whole z []
+unlessEnded z (b ∷ bs) further = further
 
--- With room for so many steps.
-unfoldable pub collect : ℕ → List ℕ → Collected
-collect zero bs = unlessEnded bs longer
-collect (suc room) bs = unlessEnded bs (onto (readStep bs) (λ rest. collect room rest))
+-- Behind a first line of these sizes, with room for so many steps.
+unfoldable pub collect : Size → ℕ → List ℕ → Collected
+collect z zero bs = unlessEnded z bs longer
+collect z (suc room) bs = unlessEnded z bs (onto (readStep bs) (λ rest. collect z room rest))
 
 -- The sizes of a first line.
 unfoldable pub sizesOf : Step → Size
 sizesOf x = record { n = x .a; l = x .b; p = x .c }
 
-unfoldable pub replyBehind : Size → Collected → List ℕ
-replyBehind z (whole xs) = answerLines (walk (fresh z) xs .answers)
-replyBehind z (badBehind k) = badLine (k + 2)
-replyBehind z longer = tooLong
+-- From the first line on.
+unfoldable pub collectFrom : Option (Got Step) → Collected
+collectFrom none = badAt 1
+collectFrom (some g) = cond (admissible (sizesOf (g .value))) (collect (sizesOf (g .value)) mostSteps (g .rest)) (badAt 1)
 
-unfoldable pub replyOf : Size → List ℕ → List ℕ
-replyOf z rest = cond (admissible z) (replyBehind z (collect mostSteps rest)) (badLine 1)
-
-unfoldable pub replyFrom : Option (Got Step) → List ℕ
-replyFrom none = badLine 1
-replyFrom (some g) = replyOf (sizesOf (g .value)) (g .rest)
+unfoldable pub replyFor : Collected → List ℕ
+replyFor (whole z xs) = answerLines (walk (fresh z) xs .answers)
+replyFor (badAt k) = badLine k
+replyFor longer = tooLong
 
 unfoldable pub replyTo : List ℕ → List ℕ
-replyTo text = cond (ltb mostBytes (length text)) tooLong (replyFrom (readSizes text))
+replyTo text = cond (ltb mostBytes (length text)) tooLong (replyFor (collectFrom (readSizes text)))

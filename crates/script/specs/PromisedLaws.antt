@@ -1,35 +1,29 @@
 -- From what is printed to the reply. Assumes nothing.
-use Prim.Native.Nat.{ℕ, _+_, _*_, _≤_, _<_}
+use Prim.Native.Nat.{ℕ, _+_, _*_, _≤_}
 use mathlib.Core.Bool.{Bool, true, false}
 use mathlib.Core.List.{List, [], _∷_, _++_}
 use mathlib.Core.Logic.{⊎-elim, _↔_}
-use mathlib.Core.Option.{Option}
+use mathlib.Core.Option.{some, Option·none-ne-some, Option·some-injective}
 use mathlib.Core.Path.{_≡_, refl, sym, _∙_, ap, subst}
 use native.Mathlib.Omega.{arith}
 use borrow.Author.Tests.{leb-true, le-leb}
-use lib.ListN.{length, take, drop, length-drop, length-append}
+use lib.ListN.{length, take, drop, length-append}
 use lib.Seq.{take-at}
 use Rattle.words.specs.Lists.{splice}
-use Rattle.words.specs.TestLaws.{cond-true, cond-false, and-left, and-right, either, true-not-false}
+use Rattle.words.specs.TestLaws.{and-left, and-right, either, true-not-false}
 use Rattle.tables.specs.Size.{Size}
-use Rattle.rules.specs.Step.{Step, Answer, answerWords}
-use Rattle.lines.specs.Read.{Got, readSizes, readLine}
-use Rattle.lines.specs.ReadLaws.{read-sizes-shorter}
-use Rattle.lines.specs.Found.{lineIn, LinePromise}
-use Rattle.lines.specs.LineLaws.{line-first}
-use Rattle.lines.specs.declared.Line.{Line}
-use Rattle.lines.specs.declared.Line.the-variants as line
+use Rattle.rules.specs.Step.{Answer, answerWords}
 use Rattle.lines.specs.Decimal.{decimal, greatest}
 use Rattle.lines.specs.DecimalLaws.{length-decimal}
 use Rattle.lines.specs.Line.{fields}
 use Rattle.printing.specs.Printed.{Puts, wordLines}
-use Rattle.script.specs.Reply.{answerLine, mostBytes, mostSteps, admissible, answerLines, tooLong, badLine, Reply}
-use Rattle.script.specs.Collect.{collect, sizesOf, replyBehind, replyOf, replyFrom, replyTo}
+use Rattle.script.specs.Reply.{answerLine, mostBytes, answerLines, tooLong, badLine, Reply}
+use Rattle.script.specs.Collect.{Collected, replyFor, replyTo}
 use Rattle.script.specs.ReplyLaws.{reply-found, reply-settled, short-one}
 use Rattle.script.specs.Promised.{answersOf, Room, roomy, Replied, Misfits, ReplyPromise}
-use Rattle.script.specs.Listed.{collectedIn, Few, ListedPromise}
+use Rattle.script.specs.Listed.{sizes, collectedIn, Fits, ListedPromise}
 use Rattle.script.specs.declared.collecting.Listed.{Listed}
-use Rattle.script.specs.declared.collecting.Listed.the-variants.{Whole, BadBehind, Longer}
+use Rattle.script.specs.declared.collecting.Listed.the-variants.{Unread, Whole, BadAt, Longer}
 
 -- The same bytes.
 pub puts-as : {o bs cs e : List ℕ} {at r : ℕ} → bs ≡ cs → Puts o at bs r e → Puts o at cs r e
@@ -54,55 +48,30 @@ length-badLine k = omega (arith, length-append (decimal k) (10 ∷ []))
 pub badLine-fits : (k : ℕ) (out : List ℕ) → k ≤ greatest → 28160 ≤ length out → length (badLine k) ≤ length out
 badLine-fits k out small wide = omega (arith, length-badLine k, length-decimal k small)
 
--- ---- behind the first line
+-- ---- what was listed
 
-module _ (z : Size) (text : List ℕ) {r : Listed} {words : List ℕ} (found : ListedPromise text r words) where
-  behind-is : {s : Listed} → r ≡ s → replyBehind z (collectedIn words s) ≡ replyBehind z (collect mostSteps text)
-  behind-is e = ap (replyBehind z) (ap (collectedIn words) (sym e) ∙ found .found-is)
+module _ (text : List ℕ) (short : length text ≤ mostBytes) {r : Listed} {words : List ℕ} (found : ListedPromise text r words) where
+  listed-says : {s : Listed} {o : Collected} → r ≡ s → collectedIn words s ≡ some o → replyFor o ≡ replyTo text
+  listed-says e says = ap replyFor (Option·some-injective _ _ (sym says ∙ (ap (collectedIn words) (sym e) ∙ found .found-is))) ∙ sym (short-one text short)
 
-  pub behind-few : {s : Listed} → r ≡ s → Few s
-  behind-few e = subst Few e (found .few)
+  pub listed-fits : {s : Listed} → r ≡ s → Fits s
+  listed-fits e = subst Fits e (found .fits)
 
-  module _ {o e : List ℕ} {n : ℕ} where
-    pub behind-whole : {count : ℕ} → r ≡ Whole count → Puts o 0 (answerLines (answersOf z (take (count * 5) words))) n e → Puts o 0 (replyBehind z (collect mostSteps text)) n e
-    unfolding replyBehind answersOf
-    behind-whole is p = puts-as (behind-is is) p
+  module _ {o e : List ℕ} {m : ℕ} where
+    pub listed-whole : {n l p count : ℕ} → r ≡ Whole n l p count → {z : Size} → z ≡ sizes n l p → Puts o 0 (answerLines (answersOf z (take (count * 5) words))) m e → Puts o 0 (replyTo text) m e
+    unfolding replyFor answersOf
+    listed-whole {count = count} is same put = puts-as (ap (λ z. answerLines (answersOf z (take (count * 5) words))) same ∙ listed-says is refl) put
 
-    pub behind-bad : {count : ℕ} → r ≡ BadBehind count → Puts o 0 (badLine (count + 2)) n e → Puts o 0 (replyBehind z (collect mostSteps text)) n e
-    unfolding replyBehind
-    behind-bad is p = puts-as (behind-is is) p
+    pub listed-bad : {k : ℕ} → r ≡ BadAt k → Puts o 0 (badLine k) m e → Puts o 0 (replyTo text) m e
+    unfolding replyFor
+    listed-bad is put = puts-as (listed-says is refl) put
 
-    pub behind-longer : r ≡ Longer → Puts o 0 tooLong n e → Puts o 0 (replyBehind z (collect mostSteps text)) n e
-    unfolding replyBehind
-    behind-longer is p = puts-as (behind-is is) p
+    pub listed-longer : r ≡ Longer → Puts o 0 tooLong m e → Puts o 0 (replyTo text) m e
+    unfolding replyFor
+    listed-longer is put = puts-as (listed-says is refl) put
 
--- ---- from the first line on
-
-module _ (z : Size) (rest : List ℕ) {ok : Bool} (is : ok ≡ admissible z) {o e : List ℕ} {n : ℕ} where
-  pub sizes-good : ok ≡ true → Puts o 0 (replyBehind z (collect mostSteps rest)) n e → Puts o 0 (replyOf z rest) n e
-  unfolding replyOf
-  sizes-good t p = puts-as (sym (cond-true (admissible z) _ _ (sym is ∙ t))) p
-
-  pub sizes-bad : ok ≡ false → Puts o 0 (badLine 1) n e → Puts o 0 (replyOf z rest) n e
-  unfolding replyOf
-  sizes-bad f p = puts-as (sym (cond-false (admissible z) _ _ (sym is ∙ f))) p
-
-module _ (text : List ℕ) (short : length text ≤ mostBytes) {r : Line} (found : LinePromise text (readLine text 0) r) where
-  first-is : {o : Option (Got Step)} → lineIn text r ≡ o → readSizes text ≡ o
-  first-is e = line-first text 0 refl ∙ (sym (found .found-is) ∙ e)
-
-  module _ {kind a b c d next : ℕ} (e : r ≡ line.Good kind a b c d next) where
-    -- The first line is not empty.
-    pub first-later : 0 < next
-    first-later = omega (arith, read-sizes-shorter text _ (first-is (ap (lineIn text) e)), length-drop next text)
-
-    pub first-good : {z : Size} → z ≡ record { n = a; l = b; p = c } → {o left : List ℕ} {n : ℕ} → Puts o 0 (replyOf z (drop next text)) n left → Puts o 0 (replyTo text) n left
-    unfolding replyFrom sizesOf
-    first-good same p = puts-as (ap (λ z. replyOf z (drop next text)) same ∙ sym (short-one text short ∙ ap replyFrom (first-is (ap (lineIn text) e)))) p
-
-  pub first-bad : r ≡ line.Bad → {o left : List ℕ} {n : ℕ} → Puts o 0 (badLine 1) n left → Puts o 0 (replyTo text) n left
-  unfolding replyFrom
-  first-bad e p = puts-as (sym (short-one text short ∙ ap replyFrom (first-is (ap (lineIn text) e)))) p
+  pub listed-read : r ≡ Unread → ⊥
+  listed-read is = Option·none-ne-some _ (ap (collectedIn words) (sym is) ∙ found .found-is)
 
 -- ---- with room and without
 

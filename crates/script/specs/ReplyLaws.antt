@@ -19,8 +19,8 @@ use Rattle.lines.specs.Line.{sizeLine}
 use Rattle.lines.specs.Read.{Got, readSizes}
 use Rattle.lines.specs.ReadLaws.{read-sizes, sizes-read}
 use Rattle.lines.specs.FeedLaws.{feeds, feeds-append, feeds-sizeLine, feeds-stepLine}
-use Rattle.script.specs.Reply.{mostBytes, mostSteps, admissible, StepLines, no-lines, next-line, Script, script, BadFirst, tooLong, badLine, Reply, too-many-bytes, bad-first-line, bad-step-line, too-many-lines, answered}
-use Rattle.script.specs.Collect.{Collected, sizesOf, replyBehind, replyOf, replyFrom, replyTo}
+use Rattle.script.specs.Reply.{mostBytes, mostSteps, admissible, StepLines, no-lines, next-line, Script, script, BadFirst, tooLong, Reply, too-many-bytes, bad-first-line, bad-step-line, too-many-lines, answered}
+use Rattle.script.specs.Collect.{Collected, badAt, sizesOf, collectFrom, replyFor, replyTo}
 use Rattle.script.specs.CollectLaws.{Says, all-good, one-bad, goes-on, collect-says, says-collect}
 
 -- ---- the first line
@@ -49,9 +49,9 @@ inadmissible-bad text g e fails z rest ok is =
 -- ---- the reply that is found is one
 
 -- Behind a good first line it is what the collected lines say.
-behind-found : (text : List ℕ) (z : Size) {rest : List ℕ} {o : Collected} → length text ≤ mostBytes → admissible z ≡ true → text ≡ sizeLine z ++ rest → Says mostSteps rest o
-    → Reply text (replyBehind z o)
-unfolding replyBehind
+behind-found : (text : List ℕ) (z : Size) {rest : List ℕ} {o : Collected} → length text ≤ mostBytes → admissible z ≡ true → text ≡ sizeLine z ++ rest → Says z mostSteps rest o
+    → Reply text (replyFor o)
+unfolding replyFor
 behind-found text z short ok is (all-good {xs = xs} lines fit) =
     answered short z xs (subst (Script z xs) (sym is) (script ok lines)) fit
 behind-found text z short ok is (one-bad {xs = xs} {front = front} {rest = rest} lines fit bad) =
@@ -60,12 +60,12 @@ behind-found text z short ok is (goes-on {xs = xs} {front = front} rest lines fi
     too-many-lines short z xs (sizeLine z ++ front) rest (script ok lines) (is ∙ sym (append-assoc (sizeLine z) front rest)) fill there
 
 -- With the first line as it was read.
-from-found : (text : List ℕ) → length text ≤ mostBytes → (o : Option (Got Step)) → readSizes text ≡ o → Reply text (replyFrom o)
-unfolding replyFrom replyOf sizesOf
+from-found : (text : List ℕ) → length text ≤ mostBytes → (o : Option (Got Step)) → readSizes text ≡ o → Reply text (replyFor (collectFrom o))
+unfolding collectFrom replyFor sizesOf
 from-found text short none e = bad-first-line short (unread-bad text e)
 from-found text short (some g) e =
-    cond-elim (λ (out : List ℕ). Reply text out) (admissible (sizesOf (g .value)))
-    (λ ok. behind-found text (sizesOf (g .value)) short ok (read-sizes text g e) (collect-says mostSteps (g .rest)))
+    cond-elim (λ (o : Collected). Reply text (replyFor o)) (admissible (sizesOf (g .value)))
+    (λ ok. behind-found text (sizesOf (g .value)) short ok (read-sizes text g e) (collect-says (sizesOf (g .value)) mostSteps (g .rest)))
     (λ fails. bad-first-line short (inadmissible-bad text g e fails))
 
 -- What the code finds for a text is a reply to it.
@@ -82,30 +82,30 @@ pub long-one : (text : List ℕ) → mostBytes < length text → replyTo text �
 unfolding replyTo
 long-one text long = cond-true (ltb mostBytes (length text)) _ _ (lt-ltb mostBytes (length text) long)
 
-pub short-one : (text : List ℕ) → length text ≤ mostBytes → replyTo text ≡ replyFrom (readSizes text)
+pub short-one : (text : List ℕ) → length text ≤ mostBytes → replyTo text ≡ replyFor (collectFrom (readSizes text))
 unfolding replyTo
 short-one text short = cond-false (ltb mostBytes (length text)) _ _ (le-ltb mostBytes (length text) short)
 
 -- Without a good first line it is bad line 1.
-bad-one : (text : List ℕ) → BadFirst text → (o : Option (Got Step)) → readSizes text ≡ o → replyFrom o ≡ badLine 1
-unfolding replyFrom replyOf sizesOf
+bad-one : (text : List ℕ) → BadFirst text → (o : Option (Got Step)) → readSizes text ≡ o → collectFrom o ≡ badAt 1
+unfolding collectFrom sizesOf
 bad-one text bad none e = refl
 bad-one text bad (some g) e =
-    cond-elim (λ (out : List ℕ). out ≡ badLine 1) (admissible (sizesOf (g .value)))
+    cond-elim (λ (o : Collected). o ≡ badAt 1) (admissible (sizesOf (g .value)))
     (λ ok. absurd (bad (sizesOf (g .value)) (g .rest) ok (read-sizes text g e))) (λ fails. refl)
 
 -- Behind one it is what the lines say.
-behind-one : (text : List ℕ) (z : Size) {rest : List ℕ} {o : Collected} → length text ≤ mostBytes → admissible z ≡ true → text ≡ sizeLine z ++ rest → Says mostSteps rest o
-    → replyBehind z o ≡ replyTo text
-unfolding replyFrom replyOf sizesOf
+behind-one : (text : List ℕ) (z : Size) {rest : List ℕ} {o : Collected} → length text ≤ mostBytes → admissible z ≡ true → text ≡ sizeLine z ++ rest → Says z mostSteps rest o
+    → replyFor o ≡ replyTo text
+unfolding collectFrom sizesOf
 behind-one text z {rest} short ok is says =
-    sym (short-one text short ∙ (ap replyFrom (first-read text z rest ok is) ∙ (cond-true (admissible z) _ _ ok ∙ ap (replyBehind z) (says-collect says))))
+    sym (short-one text short ∙ ap replyFor (ap collectFrom (first-read text z rest ok is) ∙ (cond-true (admissible z) _ _ ok ∙ says-collect z says)))
 
 -- Each reply to a text is what the code finds for it.
 pub reply-one : (text out : List ℕ) → Reply text out → out ≡ replyTo text
-unfolding replyBehind
+unfolding replyFor
 reply-one text out (too-many-bytes long) = sym (long-one text long)
-reply-one text out (bad-first-line short bad) = sym (short-one text short ∙ bad-one text bad (readSizes text) refl)
+reply-one text out (bad-first-line short bad) = sym (short-one text short ∙ ap replyFor (bad-one text bad (readSizes text) refl))
 reply-one text out (bad-step-line short z xs front rest (script {text = lines} ok good) is fit bad) =
     behind-one text z short ok (is ∙ append-assoc (sizeLine z) lines rest) (one-bad good fit bad)
 reply-one text out (too-many-lines short z xs front rest (script {text = lines} ok good) is fill there) =

@@ -14,7 +14,7 @@ use Rattle.lines.specs.Decimal.{digits, decimal}
 use Rattle.lines.specs.Line.{fields, numbers, sizeLine}
 use Rattle.lines.specs.Read.{chain, begins, isDigit, more, readNumber, readField, prepend, readFields, kindOf, countOf, stepWith, readArguments, readStep, readSizesBehind, readSizes}
 use Rattle.script.specs.Reply.{admissible, answerLine, answerLines, Reply}
-use Rattle.script.specs.Collect.{push, onto, unlessEnded, collect, sizesOf, replyBehind, replyOf, replyFrom, replyTo}
+use Rattle.script.specs.Collect.{push, onto, unlessEnded, collect, sizesOf, collectFrom, replyFor, replyTo}
 use Rattle.script.specs.ReplyLaws.{reply-found}
 
 -- The line of a step of these rows: o, w, r or x, and its numbers.
@@ -35,7 +35,7 @@ ten-in = sizeLine small ++ linesOf ten-steps
 
 -- The steps are read.
 ten-read : replyTo ten-in ≡ answerLines (walk (fresh small) ten-steps .answers)
-unfolding within admissible chain begins isDigit more readNumber readField prepend readFields kindOf countOf stepWith readArguments readStep readSizesBehind readSizes push onto unlessEnded collect sizesOf replyBehind replyOf replyFrom replyTo digits decimal fields numbers sizeLine
+unfolding within admissible chain begins isDigit more readNumber readField prepend readFields kindOf countOf stepWith readArguments readStep readSizesBehind readSizes push onto unlessEnded collect sizesOf collectFrom replyFor replyTo digits decimal fields numbers sizeLine
 ten-read = refl
 
 -- The desk program's reply to the ten rows: the lines of their answers.

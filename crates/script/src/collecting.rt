@@ -1,17 +1,25 @@
-// The steps behind the first line of a text, as words.
+// The sizes and steps of a text, the steps as words.
 ghost use mathlib.Core.Path.{_≡_};
 ghost use mathlib.Core.List.{[], _∷_};
-ghost use Prim.Native.Nat.{_+_, _*_, _≤_, _<_};
-ghost use lib.ListN.{length, drop};
+ghost use Prim.Native.Nat.{_+_, _*_, _≤_};
+ghost use lib.ListN.{length};
 ghost use Rattle.words.specs.Lists.{splice};
-ghost use Rattle.script.specs.Listed.{Few, ListedPromise, PutPromise, goesOn};
+ghost use Rattle.script.specs.Listed.{Fits, ListedPromise, PutPromise, answerFirst, goesOn};
 ghost use Rattle.script.specs.declared.collecting.Listed.{Listed};
+use crate::answering;
 use lines::Line;
+use tables::Table;
 
-// So many steps and no more text, a bad line behind so many steps, or more lines than there is room for.
+// Before the first line; sizes and so many steps; the number of a bad line; or more lines than there is room for.
 pub enum Listed {
-    Whole(usize),
-    BadBehind(usize),
+    Unread,
+    Whole {
+        n: u32,
+        l: u32,
+        p: u32,
+        count: usize,
+    },
+    BadAt(u32),
     Longer,
 }
 
@@ -28,14 +36,36 @@ fn put_step(steps: &mut [u32], i: usize, kind: u32, a: u32, b: u32, c: u32, d: u
     steps[at + 4] = d;
 }
 
-// One line more behind so many steps: its step, put behind theirs, or a bad line, or one for which there is no room.
-fn put_behind(steps: &mut [u32], count: usize, line: Line) -> Listed
+// The first line: sizes that a script may ask for, and no steps yet, or a bad line.
+fn put_first(line: Line) -> Listed
+    ensures { λ r. ⌜ r ≡ answerFirst line ⌝ }
+{
+    match line {
+        Line::Good { a, b, c, .. } => {
+            if answering::is_admissible(Table::new(a, b, c)) {
+                return Listed::Whole {
+                    n: a,
+                    l: b,
+                    p: c,
+                    count: 0,
+                };
+            }
+            Listed::BadAt(1)
+        }
+        Line::Bad => Listed::BadAt(1),
+    }
+}
+
+// One line more behind sizes and so many steps: its step, put behind theirs, or a bad line, or one for which there is no room.
+fn put_behind(steps: &mut [u32], n: u32, l: u32, p: u32, count: usize, line: Line) -> Listed
     requires { ⌜ (count ≤ 512) × (2560 ≤ length (now steps)) ⌝ }
-    ensures { λ r. ⌜ PutPromise (now (steps .entry)) (Listed.Whole count) line r (now (steps .exit)) ⌝ }
+    ensures { λ r. ⌜ PutPromise (now (steps .entry)) (Listed.Whole n l p count) line r (now (steps .exit)) ⌝ }
 {
     if count == crate::MOST_STEPS {
         return Listed::Longer;
     }
+    // The first step stands on line 2.
+    let number = count as u32 + 2;
     match line {
         Line::Good {
             kind,
@@ -46,43 +76,51 @@ fn put_behind(steps: &mut [u32], count: usize, line: Line) -> Listed
             ..
         } => {
             put_step(steps, count, kind, a, b, c, d);
-            Listed::Whole(count + 1)
+            Listed::Whole {
+                n,
+                l,
+                p,
+                count: count + 1,
+            }
         }
-        Line::Bad => Listed::BadBehind(count),
+        Line::Bad => Listed::BadAt(number),
     }
 }
 
 // One line more behind what was listed so far. Behind a bad line, and past the room, nothing is listed.
 fn put_line(steps: &mut [u32], listed: Listed, line: Line) -> Listed
-    requires { ⌜ Few listed × (2560 ≤ length (now steps)) ⌝ }
+    requires { ⌜ Fits listed × (2560 ≤ length (now steps)) ⌝ }
     ensures { λ r. ⌜ PutPromise (now (steps .entry)) listed line r (now (steps .exit)) ⌝ }
 {
     match listed {
-        Listed::Whole(count) => put_behind(steps, count, line),
-        Listed::BadBehind(count) => Listed::BadBehind(count),
+        Listed::Unread => put_first(line),
+        Listed::Whole { n, l, p, count } => put_behind(steps, n, l, p, count, line),
+        Listed::BadAt(k) => Listed::BadAt(k),
         Listed::Longer => Listed::Longer,
     }
 }
 
-// Is there a next line to be listed, in a text of so many bytes that is read up to a place?
+// Is there a next line to be listed, in a text of so many bytes that is read up to a place? A first line there always is: that of an
+// empty text is bad.
 fn goes_on(listed: Listed, at: usize, bytes: usize) -> bool
     ensures { λ r. ⌜ r ≡ goesOn listed at bytes ⌝ }
 {
     match listed {
-        Listed::Whole(_) => at < bytes,
-        Listed::BadBehind(_) => false,
+        Listed::Unread => true,
+        Listed::Whole { .. } => at < bytes,
+        Listed::BadAt(_) => false,
         Listed::Longer => false,
     }
 }
 
-// The steps from a place on, put one after another into the list, which has room for 512 of them. One reader walks the text, line by
-// line.
-pub fn collect(text: &[u8], from: usize, steps: &mut [u32]) -> Listed
-    requires { ⌜ (0 < from) × (2560 ≤ length (now steps)) ⌝ }
-    ensures { λ r. ⌜ ListedPromise (drop from (now (text .entry))) r (now (steps .exit)) ⌝ }
+// The sizes of a text, and its steps, put one after another into the list, which has room for 512 of them. One reader walks the whole
+// text, line by line.
+pub fn collect(text: &[u8], steps: &mut [u32]) -> Listed
+    requires { ⌜ 2560 ≤ length (now steps) ⌝ }
+    ensures { λ r. ⌜ ListedPromise (now (text .entry)) r (now (steps .exit)) ⌝ }
 {
-    let mut r = lines::new(text, from);
-    let mut listed = Listed::Whole(0);
+    let mut r = lines::new(text, 0);
+    let mut listed = Listed::Unread;
     while goes_on(listed, r.at, text.len()) {
         let line = lines::next(&mut r);
         listed = put_line(steps, listed, line);

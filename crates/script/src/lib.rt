@@ -1,15 +1,14 @@
 // The desk program on slices: a text in, its reply out. The reply is defined in specs/Reply.antt.
 ghost use mathlib.Core.Path.{_≡_};
 ghost use mathlib.Core.Bool.{true};
-ghost use Prim.Native.Nat.{_*_, _≤_, _<_};
-ghost use lib.ListN.{length, take, drop};
+ghost use Prim.Native.Nat.{_*_, _≤_};
+ghost use lib.ListN.{take};
 ghost use Rattle.tables.specs.Shape.{shape};
 ghost use Rattle.script.specs.Reply.{admissible, answerLines};
-ghost use Rattle.script.specs.Collect.{replyOf, replyTo};
+ghost use Rattle.script.specs.Collect.{replyTo};
 ghost use Rattle.script.specs.Promised.{answersOf, Room, roomy, ReplyPromise};
 ghost use Rattle.printing.specs.Printed.{Puts};
 use collecting::Listed;
-use lines::Line;
 use tables::Table;
 
 mod answering;
@@ -70,30 +69,6 @@ fn reply_answers(
     printing::put_answers(out, &answers[..count * 5], count)
 }
 
-// The reply behind a first line that names these sizes and ends before a place.
-fn reply_behind(
-    text: &[u8],
-    at: usize,
-    z: Table,
-    table: &mut [u32],
-    steps: &mut [u32],
-    answers: &mut [u32],
-    out: &mut [u8],
-) -> usize
-    requires { ⌜ 0 < at ⌝ }
-    requires { ⌜ Room (now table) (now steps) (now answers) (now out) ⌝ }
-    ensures { λ r. ⌜ Puts (now (out .entry)) 0 (replyOf (shape z) (drop at (now (text .entry)))) r (now (out .exit)) ⌝ }
-{
-    if answering::is_admissible(z) {
-        return match collecting::collect(text, at, steps) {
-            Listed::Whole(count) => reply_answers(z, count, table, steps, answers, out),
-            Listed::BadBehind(count) => messages::bad_line(out, count as u32 + 2),
-            Listed::Longer => messages::too_long(out),
-        };
-    }
-    messages::bad_line(out, 1)
-}
-
 // The reply to a text.
 fn reply_text(
     text: &[u8],
@@ -108,17 +83,19 @@ fn reply_text(
     if MOST_BYTES < text.len() {
         return messages::too_long(out);
     }
-    match lines::read_line(text, 0) {
-        Line::Good { a, b, c, next, .. } => reply_behind(
-            text,
-            next,
-            Table::new(a, b, c),
+    match collecting::collect(text, steps) {
+        Listed::Whole { n, l, p, count } => reply_answers(
+            Table::new(n, l, p),
+            count,
             table,
             steps,
             answers,
             out,
         ),
-        Line::Bad => messages::bad_line(out, 1),
+        Listed::BadAt(k) => messages::bad_line(out, k),
+        Listed::Longer => messages::too_long(out),
+        // No text is left unread.
+        Listed::Unread => 0,
     }
 }
 

@@ -21,22 +21,26 @@ use types.Run.{look, init, forget, stop, from, load, and-then, no-more, assigns,
 use sound.WpLaws.{WpFn-mono}
 use denote.Laws.{Is}
 use denote.Plain.{uint-vals, uint-tells}
-use denote.Builtin.{u8}
+use denote.Builtin.{u8, usize}
+use denote.Exit.{yes}
 use denote.Ref.{RefT, NamedLft}
-use denote.Signature.{namedLft}
+use denote.Signature.{plain, namedLft}
 use denote.Slice.{ShrSlice, slice-vals, shr-slice-tells, shr-slice-lawful}
 use denote.Struct.Rest.{own-shut}
 use denote.Triple.Spec.{Meets, tripleOf}
 use denote.Triple.Table.{entered}
-use denote.Triple.Walked.{says, walkOf, Walks, ends-at, walked, walk-meets}
+use denote.Triple.Walked.{says, Stays, stay-none, stay-none-slice, walkOf, goes-none, goes-none-slice, Walks, ends-at, walked, walk-meets}
 use Rattle.lines.specs.declared.Reader.{Reader}
-use Rattle.lines.proofs.Passed.{val, Own, bound, stayed, entry, gone, own-twice}
+use Rattle.lines.proofs.Passed.{val, Own, bound, entry, own-twice}
 use Rattle.lines.proofs.Reader as T
 use Rattle.lines.proofs.Reader.Laws as T′
 use Rattle.lines.proofs.new.Key.{name as #lines·new}
 use Rattle.lines.proofs.new as new
 use Rattle.lines.proofs.new.Statement as stated
 use Rattle.lines.proofs.new.Code as code
+
+abbrev stayed : Stays (new.ended .signature .params) (new.ended .kept)
+stayed = (stay-none-slice (0 ∷ []) tt (plain (λ _. u8)) yes, (stay-none (λ _. usize) yes, tt))
 
 module _ {M : Type 1} (𝓤 : URA M) (H : Heap 𝓤) (A : Atoms 𝓤) (W : Given 𝓤 H A) (mem : Memory → SProp 𝓤) (run : Routine → Fun 𝓤) (κ : Lft) (q : Share) (s : RefT (List ℕ)) (n : ℕ) where
   abbrev α : NamedLft
@@ -73,7 +77,8 @@ module _ {M : Type 1} (𝓤 : URA M) (H : Heap 𝓤) (A : Atoms 𝓤) (W : Given
 
 new-meets : {M : Type 1} (𝓤 : URA M) (H : Heap 𝓤) (A : Atoms 𝓤) → Given 𝓤 H A → (mem : Memory → SProp 𝓤) (run : Routine → Fun 𝓤) (𝓣 : Tables 𝓤 H)
     → Meets 𝓤 H A new.signature (WpFn 𝓤 H (𝓣 .C) (𝓣 .Λ) code.function) (new.spec 𝓤 H A mem run)
-new-meets 𝓤 H A W mem run 𝓣 = walk-meets 𝓤 H A new.ended stayed W (gone 𝓤 H A W) (new.clauses 𝓤 H A mem run) (WpFn 𝓤 H (𝓣 .C) (𝓣 .Λ) code.function) (WpFn-mono 𝓤 H (W .laws) 𝓣 code.function) (new-walks 𝓤 H A W mem run (𝓣 .C) (𝓣 .Λ))
+new-meets 𝓤 H A W mem run 𝓣 = walk-meets 𝓤 H A new.ended stayed W (goes-none-slice 𝓤 H A W 1 (0 ∷ []) tt (plain (λ _. u8)) yes, (goes-none 𝓤 H A W 1 (λ _. usize) yes (λ κs x f. refl), tt))
+    (new.clauses 𝓤 H A mem run) (WpFn 𝓤 H (𝓣 .C) (𝓣 .Λ) code.function) (WpFn-mono 𝓤 H (W .laws) 𝓣 code.function) (new-walks 𝓤 H A W mem run (𝓣 .C) (𝓣 .Λ))
 
 pub new-spec : {M : Type 1} → stated.statement M
 unfolding code.routine tablesOf

@@ -27,7 +27,7 @@ use denote.Laws.{Is, shows}
 use denote.Memory.{mem, cellAt}
 use denote.Plain.{uint-makes, uint-lawful}
 use denote.Builtin.{usize}
-use denote.Ref.{RefT, NamedLft, MutRef, ptr-vals, mut-tells}
+use denote.Ref.{RefT, now, NamedLft, MutRef, ptr-vals, mut-tells}
 use denote.Signature.{Slot, plain, namedLft}
 use denote.Steps.{only, opens, closes, owned, peeks, facts, heard, nothing}
 use denote.Enum.Laws as EL
@@ -41,10 +41,11 @@ use denote.Triple.Spec.{Meets, tripleOf}
 use denote.Triple.Table.{entered, cited}
 use denote.Triple.Walked.{says, Stays, stay-ref, walkOf, goes-ref, Walks, ends-at, walked, walk-meets}
 use denote.Triple.Clauses.{ensured, lasts}
-use Rattle.lines.specs.Found.{placeBehind}
+use Rattle.lines.specs.Read.{readLine}
+use Rattle.lines.specs.Found.{LinePromise, placeBehind}
 use Rattle.lines.specs.declared.Reader.{Reader}
 use Rattle.lines.specs.declared.Line.{Line}
-use Rattle.lines.proofs.Passed.{Own, bound, IsLine, asks}
+use Rattle.lines.proofs.Passed.{Own, bound, asks}
 use Rattle.lines.proofs.Reader as T
 use Rattle.lines.proofs.Reader.Laws as T′
 use Rattle.lines.proofs.Line as S
@@ -65,6 +66,10 @@ use Rattle.lines.proofs.next.Code as code
 -- `Reader<'a>`, as the referent's place in the signature
 abbrev ReaderS : Slot 2
 ReaderS = plain (λ κs. T.the-row (namedLft 2 1 tt κs))
+
+-- a result that is the line there
+abbrev IsLine : RefT (List ℕ) → ℕ → Line → Type 0
+IsLine s n = LinePromise (now s) (readLine (now s) n)
 
 abbrev stayed : Stays (next.ended .signature .params) (next.ended .kept)
 stayed = (stay-ref (0 ∷ []) tt ReaderS, tt)

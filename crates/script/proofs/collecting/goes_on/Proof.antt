@@ -14,6 +14,9 @@ enum-told-2 c = search needs
 enum-told-3 : tie.Need-enum-told-3
 enum-told-3 c = search needs
 
+enum-told-4 : tie.Need-enum-told-4
+enum-told-4 c = search needs
+
 returns : tie.Need-returns
 returns c = sym (ap (λ l. goesOn l (c .before .before .args .at) (c .before .before .args .bytes)) (c .enum-told .given .1))
 
@@ -23,5 +26,10 @@ returns-2 c = sym (ap (λ l. goesOn l (c .before .before .args .at) (c .before .
 returns-3 : tie.Need-returns-3
 returns-3 c = sym (ap (λ l. goesOn l (c .before .before .args .at) (c .before .before .args .bytes)) (c .enum-told3 .given .1))
 
+returns-4 : tie.Need-returns-4
+returns-4 c = sym (ap (λ l. goesOn l (c .before .before .args .at) (c .before .before .args .bytes)) (c .enum-told4 .given .1))
+
 pub goes-on-spec : {M : Type 1} → statement M
-goes-on-spec = tie.close (tie.spec enum-told enum-told-2 enum-told-3 returns returns-2 returns-3)
+goes-on-spec =
+    tie.close
+    (tie.spec enum-told enum-told-2 enum-told-3 enum-told-4 returns returns-2 returns-3 returns-4)

@@ -7,14 +7,20 @@ use Rattle.script.proofs.collecting.put_behind.Tie as tie
 returns : tie.Need-returns
 returns c = put-full (c .if1 .taken)
 
+cast-number : tie.Need-cast-number
+cast-number c = search needs
+
+add-number : tie.Need-add-number
+add-number c = search needs
+
 enum-known-line : tie.Need-enum-known-line
 enum-known-line c = search needs
 
 put-step-requires : tie.Need-put-step-requires
 put-step-requires c κs = search needs
 
-add-t14 : tie.Need-add-t14
-add-t14 c = search needs
+add-t19 : tie.Need-add-t19
+add-t19 c = search needs
 
 enum-told : tie.Need-enum-told
 enum-told c = search needs
@@ -33,9 +39,11 @@ put-behind-spec =
     tie.close
     (tie.spec
     returns
+    cast-number
+    add-number
     enum-known-line
     put-step-requires
-    add-t14
+    add-t19
     enum-told
     same-length
     returns-2

@@ -12,6 +12,7 @@ pub mod Propagation
 pub mod Terms
 pub mod Moments
 pub mod Accepted
+pub mod TermLaws
 pub mod Remembering
 pub mod Guarantees
 pub mod Opening

@@ -4,12 +4,11 @@ use mathlib.Core.Bool.{Bool, true}
 use mathlib.Core.List.{List, [], _∷_, _++_}
 use mathlib.Core.Logic.{⊎-elim, _↔_}
 use mathlib.Core.Path.{_≡_, sym, _∙_, ap, subst}
-use native.Mathlib.Omega.{arith}
 use lib.ListN.{getD}
 use Rattle.words.specs.CaseLaws.{lt-or-le}
 use Rattle.tables.specs.Size.{Size}
-use Rattle.tables.specs.State.{Session, closed, opened, State}
-use Rattle.tables.specs.StateLaws.{one-session}
+use Rattle.tables.specs.State.{Session, opened, State}
+use Rattle.tables.specs.StateLaws.{one-session, not-both}
 use Rattle.tables.specs.Layout.{sizeOf, decode, guaranteesAt}
 use Rattle.tables.specs.Sound.{sound}
 use Rattle.tables.specs.Meaning.{Means}
@@ -35,12 +34,7 @@ lasts-front k t (x ∷ xs) ys lasts = (lasts .0, lasts-front k (step t x .table)
 
 -- An open slot is one of the table's.
 open-below : {z : Size} {s : State} {t : List ℕ} → Means z s t → (k : ℕ) (q : Session) → s .slot k ≡ opened q → k < z .p
-open-below {z} {s} means k q e = ⊎-elim (λ l. l) (λ l. absurd (not-both (means .state .noSlot k l))) (lt-or-le k (z .p))
-  where
-    not-both : s .slot k ≡ closed → ⊥
-    not-both p =
-        let y : _≡_ {A = ℕ} 0 1 = cc in
-        omega arith
+open-below {z} means k q e = ⊎-elim (λ l. l) (λ l. not-both e (means .state .noSlot k l)) (lt-or-le k (z .p))
 
 -- Slot k is open, and its session has this sum of guarantees.
 pub record Has (t : List ℕ) (k guarantees : ℕ) : Type 0 where

@@ -8,7 +8,7 @@ use lib.Dec.{eqb}
 use Rattle.words.specs.ListLaws.{upd-same, upd-other, upd-elim}
 use Rattle.words.specs.TestLaws.{either}
 use Rattle.vectors.specs.VectorLaws.{join-left}
-use Rattle.tables.specs.StateLaws.{one-session}
+use Rattle.tables.specs.StateLaws.{one-session, not-both}
 use Rattle.tables.specs.Size.{Size}
 use Rattle.tables.specs.State.{Session, closed, opened, State, withVector, withLog, withSlot}
 use Rattle.tables.specs.SoundState.{SoundState, SoundSession, SoundSlot}
@@ -70,12 +70,7 @@ module _ {z : Size} {s : State} (sound : SoundState z s) (k : ℕ) (q : Session)
   unfolding accepted received withVector withLog withSlot done
   effect-still (was-refused code h) lasts = record { session = q; is = e; later = later-refl q }
   effect-still (was-opened {k = m} {g = g} p) lasts =
-      still-set s m (newSession g) k q e (λ d. absurd (not-both (ap (s .slot) d ∙ p)))
-    where
-      not-both : s .slot k ≡ closed → ⊥
-      not-both p =
-          let y : _≡_ {A = ℕ} 0 1 = cc in
-          omega arith
+      still-set s m (newSession g) k q e (λ d. not-both e (ap (s .slot) d ∙ p))
   effect-still (was-closed {k = m} r p) lasts =
       ⊎-elim (λ t. absurd (lasts (ap closes (sym (eqb-true k m t))) refl))
       (λ t. record { session = q; is = upd-other (s .slot) m closed k (eqb-false k m t) ∙ e; later = later-refl q }) (either (eqb k m))

@@ -87,6 +87,12 @@ module _ (z : Size) (x : Step) where
       by-kind (Or-bad (exchanges (x .a) (x .b) (x .c))) (λ k g. absurd (omega arith)) (λ k g. absurd (omega arith))
       (λ k g. absurd (omega arith)) (λ k g. absurd (omega arith)) (λ k g. inl refl) (inr refl)
 
+  -- Only kind 1 opens a slot, and only the slot that it names.
+  pub asked-opens : (k g : ℕ) → asked z x ≡ opens k g → (x .kind ≡ 1) × (x .a ≡ k)
+  asked-opens k g =
+      by-kind (λ o. o ≡ opens k g → (x .kind ≡ 1) × (x .a ≡ k)) (λ p h e. (p, cc)) (λ p h e. never cc) (λ p h e. never cc)
+      (λ p h e. never cc) (λ p h e. never cc) (λ e. never cc)
+
   -- Only kind 2 closes a slot, and only the slot that it names.
   pub asked-close : (k : ℕ) → asked z x ≡ closes k → (x .kind ≡ 2) × (x .a ≡ k)
   asked-close k =

@@ -12,8 +12,8 @@ use Rattle.words.specs.TestLaws.{and_left, all-at}
 use Rattle.logs.specs.LogTests.{agrees}
 use Rattle.logs.specs.Places.{width, entries}
 use Rattle.logs.specs.Write.{Write}
-use Rattle.tables.specs.BoundLaws.{vector-within, log-within}
-use Rattle.tables.specs.DecodeLaws.{decode-vector, decode-log}
+use Rattle.tables.proofs.BoundLaws.{vector-within, log-within}
+use Rattle.tables.proofs.DecodeLaws.{decode-vector, decode-log}
 use Rattle.tables.specs.Layout.{vector_at, count_at, log_at}
 use Rattle.tables.specs.Layout.{log_part, decode}
 use Rattle.tables.specs.Shape.{Laid}

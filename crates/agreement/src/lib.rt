@@ -1,4 +1,6 @@
 // Rules c, d and e, on logs whose counts fit: each log by itself, with its server's vector, and with the logs of its writes' origins.
+#![tactic(auto)]
+
 ghost use Rattle.std.specs.Prelude.{◌≡◌, ◌<◌};
 ghost use Rattle.words.specs.Tests.{all};
 ghost use Rattle.tables.specs.Layout.{decode};

@@ -10,10 +10,10 @@ use Rattle.tables.specs.Sound.{sound}
 use Rattle.tables.specs.State.{State}
 use Rattle.tables.specs.Layout.{size_of, encode, decode}
 use Rattle.tables.specs.Meaning.{Means}
-use Rattle.tables.specs.MeaningLaws.{means-sound, means-size, means-state, sound-means}
+use Rattle.tables.proofs.MeaningLaws.{means-sound, means-size, means-state, sound-means}
 use Rattle.rules.specs.Step.{Step, Op, bad, opens, closes, reads, writes, exchanges, open_in_range, close_in_range, read_in_range, write_in_range, exchange_in_range, if_in_range, of_kind, asked, Answer, refused}
 use Rattle.rules.specs.Rules.{rule, obeyed}
-use Rattle.rules.specs.CallLaws.{step-means, means-next}
+use Rattle.rules.proofs.CallLaws.{step-means, means-next}
 use Rattle.rules.specs.Calls.{written}
 use Rattle.kinds.specs.Obeys.{Held, Comes}
 use Rattle.kinds.specs.ComesLaws.{comes-refused}

@@ -1,4 +1,6 @@
 // One step on a sound table: told apart by its kind, its arguments tested, and done.
+#![tactic(auto)]
+
 ghost use Rattle.tables.specs.Shape.{shape};
 ghost use Rattle.kinds.specs.Obeys.{answer_of, Held};
 ghost use Rattle.applying.specs.Asked.{step_of, Applied};
@@ -9,7 +11,7 @@ use tables::Table;
 mod asked;
 
 // 01, "Steps": a step's five words.
-#[derive(Drop)]
+#[derive(Clone, Copy)]
 pub struct StepWords {
     pub kind: u32,
     pub a: u32,

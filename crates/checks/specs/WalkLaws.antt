@@ -13,7 +13,7 @@ use Rattle.std.proofs.Math.ListN.{drop}
 use Rattle.words.specs.Lists.{keep}
 use Rattle.words.specs.TestLaws.{cond-true, cond-false, same_test, either, and_left, and_both, or_cases, or_left, or_right}
 use Rattle.logs.specs.Write.{Write, before, same}
-use Rattle.logs.specs.WriteLaws.{before-clock-le}
+use Rattle.logs.proofs.WriteLaws.{before-clock-le}
 use Rattle.logs.specs.LogTests.{in_range, goes_on, ordered, of_origin, up_to, greatest_clock, greatest_of, same_all, agrees}
 use Rattle.logs.specs.Places.{width, entry, entries}
 use Rattle.checks.specs.Walk.{writes_from, origin_from, NextOf}

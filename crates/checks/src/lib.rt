@@ -1,4 +1,6 @@
 // The tests of 01, "A sound table", on one log (c, d) and on two (e).
+#![tactic(auto)]
+
 ghost use Rattle.std.specs.Prelude.{◌≡◌, [], ◌∷◌, max, ◌*◌, ◌≤◌, length};
 ghost use Rattle.logs.specs.LogTests.{in_range, goes_on, ordered, greatest_of, agrees};
 ghost use Rattle.logs.specs.Places.{entries};

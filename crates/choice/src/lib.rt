@@ -1,5 +1,7 @@
 // The choice of a server for one read or write of a session. Who passes and in which order the servers are tried is defined in
 // crates/rules/specs/Choice.antt, the outcome of the search in specs/Outcome.antt.
+#![tactic(auto)]
+
 ghost use Rattle.std.specs.Prelude.{◌≡◌, ◌<◌, max, length};
 ghost use Rattle.words.specs.Tests.{implies};
 ghost use Rattle.vectors.specs.Vector.{vector_of, dominates};
@@ -11,7 +13,7 @@ ghost use Rattle.choice.specs.Outcome.{Asking, session_in, current, read_verdict
 use tables::Table;
 
 // What a search for a server found.
-#[derive(Drop)]
+#[derive(Clone, Copy)]
 pub enum Choice {
     At(usize),
     Behind,

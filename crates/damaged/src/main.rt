@@ -1,5 +1,7 @@
 // Tables that aren't sound: each rule broken, by itself where that can be. Each kind of step answers 1, and the table keeps every
 // word. Beside them stand tables with words at the ends of what is sound. `stdout` has the lines that 01 asks for.
+#![tactic(auto)]
+
 use telling::{play, rows, show};
 
 mod changes;

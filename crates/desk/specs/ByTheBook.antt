@@ -5,9 +5,9 @@ use Rattle.words.specs.TestLaws.{and_left}
 use Rattle.tables.specs.Size.{Size, within}
 use Rattle.rules.specs.Step.{Step}
 use Rattle.book.specs.Book.{blank, book_answers}
-use Rattle.book.specs.Schedule.{schedule-book}
+use Rattle.book.proofs.Schedule.{schedule-book}
 use Rattle.script.specs.Reply.{most_bytes, most_steps, admissible, Script, script, Reply, answered, answer_lines}
-use Rattle.script.specs.ReplyLaws.{reply-settled}
+use Rattle.script.proofs.ReplyLaws.{reply-settled}
 use Rattle.script.specs.Promised.{Room}
 use Rattle.desk.specs.Served.{ServePromise}
 use Rattle.desk.specs.ServedLaws.{served-reply}

@@ -2,9 +2,9 @@
 use Rattle.std.specs.Prelude.{ℕ, ◌≤◌, List, ◌≡◌, length, take}
 use Rattle.std.proofs.Common.{sym, subst, arith, length-take-le}
 use Rattle.script.specs.Reply.{Reply}
-use Rattle.script.specs.ReplyLaws.{reply-whole}
+use Rattle.script.proofs.ReplyLaws.{reply-whole}
 use Rattle.script.specs.Promised.{Room}
-use Rattle.script.specs.PromisedLaws.{replied-front}
+use Rattle.script.proofs.PromisedLaws.{replied-front}
 use Rattle.desk.specs.Served.{ServePromise, WorkPromise}
 
 module _ {table steps answers out text' table' steps' answers' out' : List ℕ} {read code count : ℕ}

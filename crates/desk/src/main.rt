@@ -1,12 +1,14 @@
 // The desk program: reads a script from standard input and writes the reply to standard output. What it replies is the promise of
 // `script::reply`; this adds the reading and the writing. specs/Served.antt says what can be promised of these.
+#![tactic(auto)]
+
 ghost use Rattle.desk.specs.Served.{ServePromise, WorkPromise};
 
 use libc::{STDERR_FILENO, STDIN_FILENO, STDOUT_FILENO};
 use script::Told;
 
 // How many bytes were read, what `reply` told of them, and whether all bytes of the reply were taken.
-#[derive(Drop)]
+#[derive(Clone, Copy)]
 struct Served {
     read: usize,
     told: Told,

@@ -7,7 +7,7 @@ use Rattle.words.specs.TestLaws.{cond-true, cond-false}
 use Rattle.logs.specs.Write.{Write}
 use Rattle.logs.specs.Log.{last_on}
 use Rattle.logs.specs.Places.{width, entry, entries}
-use Rattle.logs.specs.EntryLaws.{entries_next}
+use Rattle.logs.proofs.EntryLaws.{entries_next}
 
 -- One place more is one write more at the end.
 pub entries-snoc : (e : ℕ) (ws : List ℕ) → entries (suc e) ws ≡ entries e ws ++ (entry (drop (e * 4) ws) ∷ [])

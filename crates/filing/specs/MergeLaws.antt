@@ -10,8 +10,9 @@ use Rattle.logs.specs.Write.{Write, before}
 use Rattle.logs.specs.Log.{insert_all}
 use Rattle.logs.specs.Ascending.{Ascending}
 use Rattle.logs.specs.Places.{places, entry, entries}
-use Rattle.logs.specs.EntryLaws.{entries-add, entries_next, entries-same, entries-held, put_at, length-put, take_put, drop-put, entries-put, places-grown}
-use Rattle.logs.specs.InsertLaws.{ascending-front, not-before-last, log-last, inserted-last}
+use Rattle.logs.specs.EntryLaws.{put_at}
+use Rattle.logs.proofs.EntryLaws.{entries-add, entries_next, entries-same, entries-held, length-put, take_put, drop-put, entries-put, places-grown}
+use Rattle.logs.proofs.InsertLaws.{ascending-front, not-before-last, log-last, inserted-last}
 use Rattle.filing.specs.Merge.{log_last, Merged, Merging}
 
 -- ---- the first places without the last

@@ -10,8 +10,8 @@ use Rattle.words.specs.TestLaws.{cond-true, cond-false}
 use Rattle.logs.specs.Write.{Write}
 use Rattle.logs.specs.Log.{lacking, follow}
 use Rattle.logs.specs.Places.{entry, entries}
-use Rattle.logs.specs.PlacesLaws.{length-entries}
-use Rattle.logs.specs.EntryLaws.{entries-add, entries_next, in-entries}
+use Rattle.logs.proofs.PlacesLaws.{length-entries}
+use Rattle.logs.proofs.EntryLaws.{entries-add, entries_next, in-entries}
 
 -- What holds of the origins of a log's first places holds of the origin in each.
 pub origin-below : {n : ℕ} (e count : ℕ) (ws : List ℕ) (w : Write) → ((x : Write) → In x (entries count ws) → x.origin < n) → e < count

@@ -14,21 +14,21 @@ use Rattle.words.specs.TestLaws.{cond-true, cond-false}
 use Rattle.vectors.specs.Vector.{vector_of}
 use Rattle.logs.specs.Write.{Write}
 use Rattle.logs.specs.Log.{insert_all, lacking, follow}
-use Rattle.logs.specs.LogLaws.{length-insert_all, take-ascending, lacking-ascending, in-lacking}
+use Rattle.logs.proofs.LogLaws.{length-insert_all, take-ascending, lacking-ascending, in-lacking}
 use Rattle.logs.specs.Ascending.{Ascending}
 use Rattle.logs.specs.Places.{entries}
-use Rattle.logs.specs.PlacesLaws.{length-entries}
+use Rattle.logs.proofs.PlacesLaws.{length-entries}
 use Rattle.tables.specs.Size.{Size}
 use Rattle.tables.specs.State.{State, with_log}
 use Rattle.tables.specs.Layout.{vector_at, count_at, encode, decode, log_part}
-use Rattle.tables.specs.LayoutLaws.{vector-encode, length-encode}
-use Rattle.tables.specs.BoundLaws.{vector-within}
-use Rattle.tables.specs.ViewLaws.{room-view, vector-view, count-view, entries-view}
-use Rattle.tables.specs.PutLaws.{put-vector-row, room-with_log}
+use Rattle.tables.proofs.LayoutLaws.{vector-encode, length-encode}
+use Rattle.tables.proofs.BoundLaws.{vector-within}
+use Rattle.tables.proofs.ViewLaws.{room-view, vector-view, count-view, entries-view}
+use Rattle.tables.proofs.PutLaws.{put-vector-row, room-with_log}
 use Rattle.rules.specs.Step.{Answer, exchanges, refused}
 use Rattle.rules.specs.Rules.{going_over, sent, received, exchange_answer, exchanging, obeyed}
-use Rattle.tables.specs.LaidLaws.{length-vector, vector_at-from}
-use Rattle.logs.specs.CongLaws.{lacking-cong, follow-held}
+use Rattle.tables.proofs.LaidLaws.{length-vector, vector_at-from}
+use Rattle.logs.proofs.CongLaws.{lacking-cong, follow-held}
 use Rattle.kinds.specs.Obeys.{Held, Obeys}
 use Rattle.kinds.specs.ComesLaws.{comes, comes-refused}
 

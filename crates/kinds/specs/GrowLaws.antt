@@ -6,16 +6,16 @@ use Rattle.words.specs.SpanLaws.{span}
 use Rattle.words.specs.LentLaws.{lent, length-lent, length_back}
 use Rattle.logs.specs.Write.{Write}
 use Rattle.logs.specs.Log.{insert_all}
-use Rattle.logs.specs.LogLaws.{length-insert_all}
+use Rattle.logs.proofs.LogLaws.{length-insert_all}
 use Rattle.logs.specs.Ascending.{Ascending}
 use Rattle.logs.specs.Places.{width, places, entries}
-use Rattle.logs.specs.PlacesLaws.{length-entries}
+use Rattle.logs.proofs.PlacesLaws.{length-entries}
 use Rattle.tables.specs.Size.{Size}
 use Rattle.tables.specs.State.{with_log}
 use Rattle.tables.specs.Layout.{count_at, log_at, encode, decode, log_part}
-use Rattle.tables.specs.BoundLaws.{log-within}
-use Rattle.tables.specs.ViewLaws.{room-view, length-view, count-view, log-view}
-use Rattle.tables.specs.PutLaws.{put-log}
+use Rattle.tables.proofs.BoundLaws.{log-within}
+use Rattle.tables.proofs.ViewLaws.{room-view, length-view, count-view, log-view}
+use Rattle.tables.proofs.PutLaws.{put-log}
 use Rattle.kinds.specs.Obeys.{Held}
 
 -- Server i's log, whose count was read and whose places are lent from one place to another.

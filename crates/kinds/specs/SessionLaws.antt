@@ -8,9 +8,9 @@ use Rattle.words.specs.Lists.{splice}
 use Rattle.words.specs.LentLaws.{lent, length-lent}
 use Rattle.tables.specs.Size.{Size}
 use Rattle.tables.specs.Layout.{slot_at, guarantees_at, decode}
-use Rattle.tables.specs.BoundLaws.{slot-within}
-use Rattle.tables.specs.ViewLaws.{room-view, length-view, shut-view, open-view}
-use Rattle.tables.specs.PutLaws.{put-open, put-closed}
+use Rattle.tables.proofs.BoundLaws.{slot-within}
+use Rattle.tables.proofs.ViewLaws.{room-view, length-view, shut-view, open-view}
+use Rattle.tables.proofs.PutLaws.{put-open, put-closed}
 use Rattle.rules.specs.Step.{Answer, opens, closes, refused, done}
 use Rattle.rules.specs.Rules.{new_session, opening, closing, obeyed}
 use Rattle.kinds.specs.Obeys.{Held, Obeys}

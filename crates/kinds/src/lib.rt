@@ -1,5 +1,7 @@
 // The kinds of step that choose no server: open, close and exchange, each on a sound table and with arguments in range. What each
 // answers and leaves in the table is defined in crates/rules/specs/Rules.antt; the promise of each is `Obeys` in specs/Obeys.antt.
+#![tactic(auto)]
+
 ghost use Rattle.std.specs.Prelude.{◌≡◌, ◌≤◌};
 ghost use Rattle.rules.specs.Step.{refused, done};
 ghost use Rattle.kinds.specs.Obeys.{answer_of};
@@ -8,7 +10,7 @@ pub mod exchanging;
 pub mod sessions;
 
 // 01, "Steps": an answer's five words.
-#[derive(Drop)]
+#[derive(Clone, Copy)]
 pub struct Answer {
     pub code: u32,
     pub server: u32,

@@ -1,2 +1,10 @@
 pub mod Lent
 pub mod Passed
+pub mod DecimalLaws
+pub mod DigitLaws
+pub mod FeedLaws
+pub mod FieldLaws
+pub mod FoundLaws
+pub mod GotLaws
+pub mod LineLaws
+pub mod ReadLaws

@@ -1,12 +1,9 @@
 pub mod Decimal
-pub mod DecimalLaws
 pub mod Line
 pub mod Read
 pub mod GotLaws
 pub mod DigitLaws
 pub mod ReadLaws
 pub mod Found
-pub mod FoundLaws
 pub mod FieldLaws
-pub mod LineLaws
 pub mod FeedLaws

@@ -1,24 +1,26 @@
 // The lines of a script: numbers and steps as text. The text is defined in specs/Line.antt, what reading it finds in specs/Read.antt.
+#![tactic(auto)]
+
 ghost use Rattle.lines.specs.Found.{NewPromise, NextPromise};
 
 pub mod reading;
 
 // A number, and where the text goes on behind it.
-#[derive(Drop)]
+#[derive(Clone, Copy)]
 pub enum Number {
     Good(u32, usize),
     Bad,
 }
 
 // Where the text goes on behind a line.
-#[derive(Drop)]
+#[derive(Clone, Copy)]
 pub enum Place {
     At(usize),
     Bad,
 }
 
 // A step, and where the text goes on behind its line. The sizes N, L and P of a first line are a step of kind 0.
-#[derive(Drop)]
+#[derive(Clone, Copy)]
 pub enum Line {
     Good {
         kind: u32,
@@ -32,7 +34,7 @@ pub enum Line {
 }
 
 // A text, and the place that has been reached in it.
-#[derive(Drop)]
+#[derive(Clone, Copy)]
 pub struct Reader<'a> {
     pub text: &'a [u8],
     pub at: usize,

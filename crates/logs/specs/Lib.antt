@@ -4,13 +4,8 @@ pub mod Log
 pub mod LogTests
 pub mod Places
 pub mod Stored
-pub mod PlacesLaws
 pub mod EntryLaws
 pub mod Ascending
-pub mod AscendingLaws
 pub mod Witness
 pub mod OrderedLaws
 pub mod LogTestLaws
-pub mod LogLaws
-pub mod InsertLaws
-pub mod CongLaws

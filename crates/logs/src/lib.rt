@@ -1,5 +1,7 @@
 // One log in words: a lent slice of places of four words each, and the count of the places that hold a write.
 // A log's words are defined in specs/Places.antt, what a log is in specs/Write.antt and specs/Log.antt.
+#![tactic(auto)]
+
 ghost use Rattle.std.specs.Prelude.{◌≡◌, [], ◌∷◌, ◌+◌, ◌*◌, ◌≤◌, length, drop};
 ghost use Rattle.words.specs.Lists.{splice};
 ghost use Rattle.logs.specs.Write.{before, same};
@@ -7,7 +9,7 @@ ghost use Rattle.logs.specs.Places.{spelled, entry};
 ghost use Rattle.logs.specs.Stored.{write_of};
 
 // One write, as it stands in a place.
-#[derive(Drop)]
+#[derive(Clone, Copy)]
 pub struct Entry {
     pub origin: u32,
     pub clock: u32,

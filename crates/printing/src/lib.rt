@@ -1,4 +1,6 @@
 // Bytes, numbers and answers, put at a place of a lent buffer. Each function answers the place behind.
+#![tactic(auto)]
+
 ghost use Rattle.std.specs.Prelude.{◌+◌, ◌*◌, ◌≤◌, length, ◌∷◌, ◌≡◌};
 ghost use Rattle.lines.specs.Decimal.{decimal};
 ghost use Rattle.printing.specs.Printed.{Puts, line_at, word_lines};

@@ -5,17 +5,10 @@ pub mod Chosen
 pub mod ChoiceLaws
 pub mod CurrentLaws
 pub mod Rules
-pub mod Figure1
 pub mod Codes
-pub mod CodeLaws
 pub mod Effects
-pub mod Arrivals
-pub mod SoundKept
 pub mod Calls
 pub mod CallLaws
-pub mod RunLaws
 pub mod Done
-pub mod DoneLaws
-pub mod Exact
 pub mod Acceptance
 pub mod Rows

@@ -1,1 +1,2 @@
 // Definitions and laws only: no code.
+#![tactic(auto)]

@@ -1,1 +1,8 @@
 pub mod Again
+pub mod CollectLaws
+pub mod FreshLaws
+pub mod ListedLaws
+pub mod PromisedLaws
+pub mod ReplyLaws
+pub mod TenLines
+pub mod WalkedLaws

@@ -7,5 +7,3 @@ pub mod Listed
 pub mod ListedLaws
 pub mod WalkedLaws
 pub mod Promised
-pub mod FreshLaws
-pub mod PromisedLaws

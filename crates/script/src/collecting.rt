@@ -9,7 +9,7 @@ use lines::Line;
 use tables::Table;
 
 // Before the first line; sizes and so many steps; the number of a bad line; or more lines than there is room for.
-#[derive(Drop)]
+#[derive(Clone, Copy)]
 pub enum Listed {
     Unread,
     Whole {

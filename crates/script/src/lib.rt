@@ -1,4 +1,6 @@
 // The desk program on slices: a text in, its reply out. The reply is defined in specs/Reply.antt.
+#![tactic(auto)]
+
 ghost use Rattle.std.specs.Prelude.{◌≡◌, true, ◌*◌, ◌≤◌, take};
 ghost use Rattle.tables.specs.Shape.{shape};
 ghost use Rattle.script.specs.Reply.{admissible, answer_lines};
@@ -29,7 +31,7 @@ pub const STEP_WORDS: usize = 2560;
 pub const OUT_BYTES: usize = 28160;
 
 // What `reply` tells its caller: 01's code, 0 or 8, and how many bytes the reply has.
-#[derive(Drop)]
+#[derive(Clone, Copy)]
 pub struct Told {
     pub code: u32,
     pub count: usize,

@@ -10,7 +10,7 @@ use Rattle.tables.specs.Size.{Size}
 use Rattle.tables.specs.State.{State, Session, opened, with_vector, with_log, with_slot}
 use Rattle.tables.specs.Layout.{encode, vector_at, last_used_at, read_at, write_at}
 use Rattle.tables.specs.LayoutLaws.{Room}
-use Rattle.tables.specs.PutLaws.{put_vector, put_last, put-read-row, put-write, with_slot-now, with_slot-twice, room-with_vector, room-with_slot, room-with_log}
+use Rattle.tables.proofs.PutLaws.{put_vector, put_last, put-read-row, put-write, with_slot-now, with_slot-twice, room-with_vector, room-with_slot, room-with_log}
 use Rattle.rules.specs.Rules.{after_read, after_write, accepted}
 
 module _ (z : Size) (s : State) (room : Room z s) where

@@ -15,13 +15,13 @@ use Rattle.logs.specs.Log.{last_on}
 use Rattle.logs.specs.Places.{entries}
 use Rattle.tables.specs.Size.{Size}
 use Rattle.tables.specs.Layout.{vector_at, count_at, last_used_at, read_at, decode, log_part}
-use Rattle.tables.specs.ViewLaws.{room-view, vector-view, entries-view, read_view}
+use Rattle.tables.proofs.ViewLaws.{room-view, vector-view, entries-view, read_view}
 use Rattle.choice.specs.Outcome.{Asking, session_in}
 use Rattle.rules.specs.Step.{Answer}
 use Rattle.rules.specs.Rules.{read_answer, read_from}
 use Rattle.kinds.specs.Obeys.{Comes}
 use Rattle.serving.specs.ChangeLaws.{read-stores}
-use Rattle.tables.specs.LaidLaws.{length-vector}
+use Rattle.tables.proofs.LaidLaws.{length-vector}
 use Rattle.kinds.specs.ComesLaws.{comes}
 
 module _ {z : Size} {t : List ℕ} {k : ℕ} (asking : Asking z t k) (i : ℕ) (h : i < z.n) where

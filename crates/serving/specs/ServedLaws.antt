@@ -8,16 +8,16 @@ use Rattle.words.specs.TestLaws.{cond-true, cond-false, and_right}
 use Rattle.tables.specs.Size.{Size}
 use Rattle.tables.specs.State.{State, Session, Slot, closed, opened}
 use Rattle.tables.specs.Layout.{encode, decode, guarantees_at}
-use Rattle.tables.specs.ViewLaws.{shut-view, open-view}
+use Rattle.tables.proofs.ViewLaws.{shut-view, open-view}
 use Rattle.rules.specs.Step.{Op, opens, closes, reads, writes, exchanges, Answer, refused}
 use Rattle.rules.specs.Choice.{start_of, choose, up_to_date_to_read, up_to_date_to_write, has_room, may_write_to}
 use Rattle.rules.specs.Chosen.{Chosen}
-use Rattle.rules.specs.ChoiceLaws.{choose-some}
+use Rattle.rules.proofs.ChoiceLaws.{choose-some}
 use Rattle.rules.specs.Rules.{reading, read_from, writing, write_to, obeyed}
 use Rattle.choice.specs.declared.Choice.{Choice}
 use Rattle.choice.specs.declared.Choice.TheVariants.{At, Behind, Full}
 use Rattle.choice.specs.Outcome.{Valued, value_of, outcome, up_to_date_to, serves, found, Asking, session_in}
-use Rattle.choice.specs.AskingLaws.{asking-starts}
+use Rattle.choice.proofs.AskingLaws.{asking-starts}
 use Rattle.kinds.specs.Obeys.{Held, Comes}
 use Rattle.kinds.specs.ComesLaws.{comes-refused}
 

@@ -10,8 +10,8 @@ use Rattle.vectors.specs.VectorLaws.{greatest-held, greatest-least}
 use Rattle.tables.specs.Size.{Size}
 use Rattle.tables.specs.State.{with_log}
 use Rattle.tables.specs.Layout.{vector_at, last_used_at, write_at, encode, decode}
-use Rattle.tables.specs.SoundStateLaws.{vector-within}
-use Rattle.tables.specs.ViewLaws.{room-view, vector-view}
+use Rattle.tables.proofs.SoundStateLaws.{vector-within}
+use Rattle.tables.proofs.ViewLaws.{room-view, vector-view}
 use Rattle.choice.specs.Outcome.{Asking, session_in}
 use Rattle.rules.specs.Rules.{new_write, write_answer, write_to}
 use Rattle.kinds.specs.Obeys.{Comes}

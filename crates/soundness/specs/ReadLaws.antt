@@ -12,7 +12,7 @@ use Rattle.words.specs.TestLaws.{all-cong, cond-true, cond-false}
 use Rattle.words.specs.CheckLaws.{leb-passes, leb-fails, and-fails, and-goes}
 use Rattle.vectors.specs.Vector.{vector_of}
 use Rattle.logs.specs.Places.{width}
-use Rattle.tables.specs.BoundLaws.{read-within, write-within}
+use Rattle.tables.proofs.BoundLaws.{read-within, write-within}
 use Rattle.tables.specs.Layout.{count_at, slot_at, slot_width, guarantees_at, last_used_at, read_at, write_at}
 use Rattle.tables.specs.Layout.{log_part, slot_part, decode}
 use Rattle.tables.specs.Shape.{Laid}

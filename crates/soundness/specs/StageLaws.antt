@@ -8,7 +8,7 @@ use Rattle.words.specs.CheckLaws.{and-goes}
 use Rattle.tables.specs.Layout.{size, size_of}
 use Rattle.tables.specs.Shape.{Laid}
 use Rattle.tables.specs.Size.{Size, within}
-use Rattle.tables.specs.SizeLaws.{within-exactly}
+use Rattle.tables.proofs.SizeLaws.{within-exactly}
 use Rattle.tables.specs.Sound.{rule_a, sound_at, sound}
 use Rattle.soundness.specs.Shares.{laid_out, rules_from_b, rules_from_c}
 

@@ -1,5 +1,7 @@
 // Is a table sound? 01, "A sound table": rules a to f, in that order, on any slice of words. The rules are defined in
 // crates/tables/specs/Sound.antt.
+#![tactic(auto)]
+
 ghost use Rattle.std.specs.Prelude.{◌≡◌};
 ghost use Rattle.tables.specs.Shape.{shape, Laid};
 ghost use Rattle.tables.specs.Sound.{sound};

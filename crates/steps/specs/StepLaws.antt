@@ -7,11 +7,11 @@ use Rattle.words.specs.SpliceLaws.{set-five}
 use Rattle.tables.specs.Size.{Size}
 use Rattle.tables.specs.Layout.{size, size_of, decode}
 use Rattle.tables.specs.Sound.{sound}
-use Rattle.tables.specs.MeaningLaws.{sound-means}
-use Rattle.tables.specs.ViewLaws.{length-view}
+use Rattle.tables.proofs.MeaningLaws.{sound-means}
+use Rattle.tables.proofs.ViewLaws.{length-view}
 use Rattle.rules.specs.Step.{Step, Answer, refused, answer_words}
 use Rattle.rules.specs.Calls.{written, StepPromise}
-use Rattle.rules.specs.CallLaws.{step-unsound, step-means}
+use Rattle.rules.proofs.CallLaws.{step-unsound, step-means}
 use Rattle.kinds.specs.Obeys.{Held}
 use Rattle.applying.specs.Asked.{Applied}
 use Rattle.steps.specs.Taken.{Taken}

@@ -11,8 +11,8 @@ use Rattle.words.specs.PartLaws.{splice-middle}
 use Rattle.words.specs.TestLaws.{and_both}
 use Rattle.rules.specs.Step.{Step, steps_of, step_words, Answer, answer_words}
 use Rattle.rules.specs.Calls.{step, onward, walk, lengths_fit, RunPromise}
-use Rattle.rules.specs.CallLaws.{walk-one, walk-append}
-use Rattle.rules.specs.RunLaws.{run_fits, run-misfits, walk-answers, length-answer_words, step_words-steps_of, length-step_words}
+use Rattle.rules.proofs.CallLaws.{walk-one, walk-append}
+use Rattle.rules.proofs.RunLaws.{run_fits, run-misfits, walk-answers, length-answer_words, step_words-steps_of, length-step_words}
 use Rattle.steps.specs.Taken.{step_at, Taken}
 
 -- ---- the steps of a list of words

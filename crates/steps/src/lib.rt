@@ -1,5 +1,7 @@
 // The delivered calls: one step and a run of steps on a table in lent words. Making a table is `tables::making::make`. None asks
 // anything of its caller. What each answers and writes is defined in crates/rules/specs/Calls.antt.
+#![tactic(auto)]
+
 ghost use Rattle.std.specs.Prelude.{◌≡◌, ◌+◌, ◌*◌, ◌≤◌, length};
 ghost use Rattle.rules.specs.Calls.{StepPromise, RunPromise};
 ghost use Rattle.kinds.specs.Obeys.{answer_of};

@@ -1,8 +1,6 @@
 -- The limits as plain bounds. Assumes nothing.
-use Rattle.std.specs.Prelude.{◌≤◌, true, false, ◌↔◌, ◌≡◌}
-use Rattle.std.proofs.Common.{leb-true, le-leb}
-use Rattle.words.specs.TestLaws.{and_left, and_right, and_both, not-true-false}
-use Rattle.tables.specs.Size.{Size, within}
+use Rattle.std.specs.Prelude.{◌≤◌}
+use Rattle.tables.specs.Size.{Size}
 
 -- 01, "Numbers": "N is 1 to 16, log places L 1 to 1,024, slots P 1 to 16."
 pub record Within (z : Size) : Type 0 where
@@ -12,25 +10,3 @@ pub record Within (z : Size) : Type 0 where
   pub few-places : z.l ≤ 1024
   pub some-slot : 1 ≤ z.p
   pub few-slots : z.p ≤ 16
-
--- The test of the limits passes exactly within these bounds.
-pub within-exactly : (z : Size) → (within z ≡ true) ↔ Within z
-unfolding within
-within-exactly z = (
-  λ h. record {
-    some-server = leb-true 1 z.n (search and_left);
-    few-servers = leb-true z.n 16 (search (and_left, and_right));
-    some-place = leb-true 1 z.l (search (and_left, and_right));
-    few-places = leb-true z.l 1024 (search (and_left, and_right));
-    some-slot = leb-true 1 z.p (search (and_left, and_right));
-    few-slots = leb-true z.p 16 (search (and_left, and_right));
-  },
-  λ b.
-      and_both _ _ (and_both _ _ (le-leb 1 z.n b.some-server) (le-leb z.n 16 b.few-servers))
-      (and_both _ _ (and_both _ _ (le-leb 1 z.l b.some-place) (le-leb z.l 1024 b.few-places))
-      (and_both _ _ (le-leb 1 z.p b.some-slot) (le-leb z.p 16 b.few-slots))),
-)
-
--- It fails where a bound does.
-pub within-fails : (z : Size) → (Within z → ⊥) → within z ≡ false
-within-fails z h = not-true-false (within z) (λ e. h ((within-exactly z).0 e))

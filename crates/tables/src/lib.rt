@@ -1,4 +1,6 @@
 // The table: its type, which has the limits, and the offsets of its words. The layout is defined in specs/Layout.antt.
+#![tactic(auto)]
+
 ghost use Rattle.std.specs.Prelude.{◌≡◌, ◌+◌, ◌*◌, ◌<◌, ◌≤◌};
 ghost use Rattle.tables.specs.Size.{Size, within};
 ghost use Rattle.tables.specs.SizeLaws.{Within};
@@ -8,7 +10,7 @@ ghost use Rattle.tables.specs.Shape.{shape, Offset};
 pub mod making;
 
 // N servers, L places in each log and P session slots. The table's words are lent beside it.
-#[derive(Drop)]
+#[derive(Clone, Copy)]
 pub struct Table {
     pub n: usize,
     pub l: usize,

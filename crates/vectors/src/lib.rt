@@ -1,5 +1,7 @@
 // Version vectors in words: one word for each server, component j at place j of a slice.
 // Two vectors of one call have the same length. Vectors themselves are defined in specs/Vector.antt.
+#![tactic(auto)]
+
 ghost use Rattle.std.specs.Prelude.{◌≡◌, max, length};
 ghost use Rattle.words.specs.Lists.{row};
 ghost use Rattle.vectors.specs.Vector.{vector_of, dominates, join, greatest};

@@ -1,4 +1,6 @@
 // What stands where in a table: parts and words of it, read only.
+#![tactic(auto)]
+
 ghost use Rattle.std.specs.Prelude.{◌≡◌, ◌<◌, get_or};
 ghost use Rattle.words.specs.Lists.{part};
 ghost use Rattle.tables.specs.Layout.{vector_at, count_at, read_at, write_at, guarantees_at, last_used_at, log_part, slot_part};

@@ -1,4 +1,6 @@
 // Words in lent slices, whatever they mean: set to zero, tested for zero, copied.
+#![tactic(auto)]
+
 ghost use Rattle.std.specs.Prelude.{◌≡◌, ◌++◌, ◌≤◌, length, replicate, drop};
 ghost use Rattle.words.specs.Tests.{zeros};
 

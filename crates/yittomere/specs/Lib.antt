@@ -1,3 +1,2 @@
 pub mod StepInto
-pub mod StepIntoLaws
 pub mod OrderLaws

@@ -1,5 +1,7 @@
 // The calls as C has them: making a table, one step and a run on lent words. include/yittomere.h declares them and says what a C
 // programmer must know. None asks anything of the numbers and words that it is given.
+#![tactic(auto)]
+
 ghost use Rattle.tables.specs.Make.{MakePromise};
 ghost use Rattle.rules.specs.Calls.{RunPromise};
 ghost use Rattle.yittomere.specs.StepInto.{StepIntoPromise};

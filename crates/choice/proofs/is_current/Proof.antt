@@ -1,5 +1,5 @@
 -- `choice::is_current` meets its contract. Assumes nothing.
-use Rattle.choice.specs.AskingLaws.{asking-laid, reads-long, writes-long, both-met, first-failed}
+use Rattle.choice.proofs.AskingLaws.{asking-laid, reads-long, writes-long, both-met, first-failed}
 use Rattle.choice.proofs.is_current.Statement.{statement}
 use Rattle.choice.proofs.is_current.Tie as tie
 

@@ -1,6 +1,6 @@
 -- `choice::next_of` meets its contract. Assumes nothing.
 use borrow.Author.Rules.{rules}
-use Rattle.choice.specs.OutcomeLaws.{next_last, next_more}
+use Rattle.choice.proofs.OutcomeLaws.{next_last, next_more}
 use Rattle.choice.proofs.next_of.Statement.{statement}
 use Rattle.choice.proofs.next_of.Tie as tie
 

@@ -1,6 +1,6 @@
 -- `choice::read_verdict` meets its contract. Assumes nothing.
 use borrow.Author.Rules.{rules}
-use Rattle.choice.specs.AskingLaws.{asking-laid, asking-guarantees, reads-judged}
+use Rattle.choice.proofs.AskingLaws.{asking-laid, asking-guarantees, reads-judged}
 use Rattle.words.specs.TestLaws.{cond-true, cond-false}
 use mathlib.Core.Path.{◌∙◌, sym}
 use native.Mathlib.Omega.{arith}

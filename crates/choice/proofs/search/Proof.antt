@@ -1,9 +1,9 @@
 -- `choice::search` meets its contract. The loop's invariant: what is to be found is what the servers not yet tried give. Assumes nothing.
 use borrow.Author.Rules.{rules}
 use Prim.Native.Nat.{◌<◌}
-use Rattle.choice.specs.AskingLaws.{asking-starts}
+use Rattle.choice.proofs.AskingLaws.{asking-starts}
 use Rattle.choice.specs.Outcome.{session_in, value_of, found, searched, verdict}
-use Rattle.choice.specs.OutcomeLaws.{search-starts, search-ends, search-found, search-on, next-below}
+use Rattle.choice.proofs.OutcomeLaws.{search-starts, search-ends, search-found, search-on, next-below}
 use Rattle.rules.specs.Choice.{onwards}
 use Rattle.tables.specs.Layout.{decode}
 use Rattle.tables.specs.Shape.{shape}

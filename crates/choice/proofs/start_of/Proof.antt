@@ -1,6 +1,6 @@
 -- `choice::start_of` meets its contract. Assumes nothing.
 use borrow.Author.Rules.{rules}
-use Rattle.choice.specs.AskingLaws.{asking-laid, asking-last}
+use Rattle.choice.proofs.AskingLaws.{asking-laid, asking-last}
 use mathlib.Core.Path.{◌∙◌}
 use native.Mathlib.Omega.{arith}
 use Rattle.choice.proofs.start_of.Statement.{statement}

@@ -1,7 +1,7 @@
 -- `choice::verdict_on` meets its contract. Assumes nothing.
 use borrow.Author.Rules.{rules}
-use Rattle.choice.specs.OutcomeLaws.{write-reached, read-reached, not-reached}
-use Rattle.tables.specs.ViewLaws.{within-view}
+use Rattle.choice.proofs.OutcomeLaws.{write-reached, read-reached, not-reached}
+use Rattle.tables.proofs.ViewLaws.{within-view}
 use native.Mathlib.Omega.{arith}
 use Rattle.choice.proofs.verdict_on.Statement.{statement}
 use Rattle.choice.proofs.verdict_on.Tie as tie

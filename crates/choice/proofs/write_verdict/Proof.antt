@@ -1,6 +1,6 @@
 -- `choice::write_verdict` meets its contract. Assumes nothing.
 use borrow.Author.Rules.{rules}
-use Rattle.choice.specs.AskingLaws.{asking-laid, asking-guarantees, writes-judged}
+use Rattle.choice.proofs.AskingLaws.{asking-laid, asking-guarantees, writes-judged}
 use Rattle.words.specs.TestLaws.{cond-true, cond-false}
 use borrow.Author.Tests.{lt-ltb, le-ltb}
 use mathlib.Core.Path.{refl, ◌∙◌, sym}

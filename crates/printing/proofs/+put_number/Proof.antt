@@ -4,8 +4,8 @@ use Prim.Native.Nat.{ℕ, ◌<◌}
 use lib.ListN.{length}
 use mathlib.Core.Path.{ap}
 use native.Mathlib.Omega.{arith}
-use Rattle.lines.specs.DecimalLaws.{decimal-one, length_more}
-use Rattle.printing.specs.PrintedLaws.{puts-digit, puts-last}
+use Rattle.lines.proofs.DecimalLaws.{decimal-one, length_more}
+use Rattle.printing.proofs.PrintedLaws.{puts-digit, puts-last}
 use borrow.Fn.Kinds.{In}
 use borrow.Fn.PlainCycle.{Measures, is, falls, and}
 use Rattle.printing.proofs.put_number.Reads as reads

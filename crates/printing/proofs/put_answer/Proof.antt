@@ -4,10 +4,10 @@ use Prim.Native.Nat.{◌+◌, ◌≤◌}
 use lib.ListN.{get_or, length-set}
 use mathlib.Core.Path.{◌∙◌}
 use native.Mathlib.Omega.{arith}
-use Rattle.lines.specs.DecimalLaws.{length-decimal}
+use Rattle.lines.proofs.DecimalLaws.{length-decimal}
 use Rattle.lines.specs.Line.{fields, numbers}
 use Rattle.printing.specs.Printed.{line_at}
-use Rattle.printing.specs.PrintedLaws.{puts_then, puts-more}
+use Rattle.printing.proofs.PrintedLaws.{puts_then, puts-more}
 use Rattle.printing.proofs.put_answer.Statement.{statement}
 use Rattle.printing.proofs.put_answer.Tie as tie
 use Rattle.printing.proofs.put_answer.Reads as reads

@@ -5,7 +5,7 @@ use Prim.Native.Nat.{◌*◌, ◌-◌, ◌≤◌}
 use lib.ListN.{length, take}
 use mathlib.Core.Path.{◌≡◌, refl}
 use Rattle.printing.specs.Printed.{Puts, word_lines}
-use Rattle.printing.specs.PrintedLaws.{puts_none, puts-line, puts-lines}
+use Rattle.printing.proofs.PrintedLaws.{puts_none, puts-line, puts-lines}
 use Rattle.printing.proofs.put_answers.Statement.{statement}
 use Rattle.printing.proofs.put_answers.Tie as tie
 

@@ -4,7 +4,7 @@ use Prim.Native.Nat.{◌+◌, ◌-◌, ◌≤◌}
 use lib.ListN.{length, take}
 use mathlib.Core.Path.{◌≡◌, refl}
 use Rattle.printing.specs.Printed.{Puts}
-use Rattle.printing.specs.PrintedLaws.{puts_none, puts-next, puts-all}
+use Rattle.printing.proofs.PrintedLaws.{puts_none, puts-next, puts-all}
 use Rattle.printing.proofs.put_bytes.Statement.{statement}
 use Rattle.printing.proofs.put_bytes.Tie as tie
 

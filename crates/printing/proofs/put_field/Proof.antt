@@ -3,8 +3,8 @@ use borrow.Author.Rules.{rules}
 use lib.ListN.{length-set}
 use mathlib.Core.Path.{◌∙◌}
 use native.Mathlib.Omega.{arith}
-use Rattle.lines.specs.DecimalLaws.{length-decimal}
-use Rattle.printing.specs.PrintedLaws.{puts_one, puts_then}
+use Rattle.lines.proofs.DecimalLaws.{length-decimal}
+use Rattle.printing.proofs.PrintedLaws.{puts_one, puts_then}
 use Rattle.printing.proofs.put_field.Statement.{statement}
 use Rattle.printing.proofs.put_field.Tie as tie
 

@@ -1,6 +1,6 @@
 -- `script::reply` meets its contract. Assumes nothing.
 use borrow.Author.Rules.{rules}
-use Rattle.script.specs.PromisedLaws.{tested-room, replied, refused}
+use Rattle.script.proofs.PromisedLaws.{tested-room, replied, refused}
 use Rattle.script.proofs.reply.Statement.{statement}
 use Rattle.script.proofs.reply.Tie as tie
 

@@ -2,7 +2,7 @@
 use borrow.Author.Rules.{rules}
 use mathlib.Core.Path.{sym}
 use lib.Seq.{length-take-le}
-use Rattle.script.specs.PromisedLaws.{puts-answers}
+use Rattle.script.proofs.PromisedLaws.{puts-answers}
 use Rattle.script.proofs.reply_answers.Statement.{statement}
 use Rattle.script.proofs.reply_answers.Tie as tie
 

@@ -2,8 +2,8 @@
 use borrow.Author.Rules.{rules}
 use mathlib.Core.Path.{sym, ◌∙◌, ap}
 use Rattle.script.specs.Reply.{admissible}
-use Rattle.script.specs.ReplyLaws.{long-one}
-use Rattle.script.specs.PromisedLaws.{puts-as, bad_line-fits, listed-fits, listed-whole, listed-bad, listed-longer, listed-read}
+use Rattle.script.proofs.ReplyLaws.{long-one}
+use Rattle.script.proofs.PromisedLaws.{puts-as, bad_line-fits, listed-fits, listed-whole, listed-bad, listed-longer, listed-read}
 use Rattle.script.proofs.reply_text.Statement.{statement}
 use Rattle.script.proofs.reply_text.Tie as tie
 

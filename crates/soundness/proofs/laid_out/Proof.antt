@@ -1,7 +1,7 @@
 -- `laid_out` meets its contract: the limits, and then the length. Assumes nothing.
 use borrow.Author.Rules.{rules}
 use Rattle.soundness.specs.Shares.{laid_out}
-use Rattle.tables.specs.SizeLaws.{within-exactly}
+use Rattle.tables.proofs.SizeLaws.{within-exactly}
 use Rattle.words.specs.CheckLaws.{passed, failed, and-fails, and-goes}
 use lib.Dec.{eqb}
 use mathlib.Core.Path.{ap}

@@ -1,6 +1,6 @@
 -- `yittomere::yittomere_step` meets its contract: the step's answer is stored in five words, or nothing is done. Assumes nothing.
 use borrow.Author.Rules.{rules}
-use Rattle.yittomere.specs.StepIntoLaws.{step_into-nothing, step_into-stored}
+use Rattle.yittomere.proofs.StepIntoLaws.{step_into-nothing, step_into-stored}
 use lib.ListN.{length-set}
 use native.Mathlib.Omega.{arith}
 use Rattle.yittomere.proofs.yittomere_step.Statement.{statement}

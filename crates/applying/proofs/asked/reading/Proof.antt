@@ -1,7 +1,7 @@
 -- `applying::asked::reading` meets its contract. Assumes nothing.
 use borrow.Author.Rules.{rules}
 use Rattle.applying.specs.KindLaws.{read-range, in-range, out_of_range}
-use Rattle.tables.specs.ViewLaws.{within-view}
+use Rattle.tables.proofs.ViewLaws.{within-view}
 use mathlib.Core.Path.{sym, ◌∙◌}
 use Rattle.applying.proofs.asked.reading.Statement.{statement}
 use Rattle.applying.proofs.asked.reading.Tie as tie

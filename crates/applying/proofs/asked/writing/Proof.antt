@@ -1,7 +1,7 @@
 -- `applying::asked::writing` meets its contract. Assumes nothing.
 use borrow.Author.Rules.{rules}
 use Rattle.applying.specs.KindLaws.{write-range, in-range, out_of_range}
-use Rattle.tables.specs.ViewLaws.{within-view}
+use Rattle.tables.proofs.ViewLaws.{within-view}
 use mathlib.Core.Path.{sym, ◌∙◌}
 use Rattle.applying.proofs.asked.writing.Statement.{statement}
 use Rattle.applying.proofs.asked.writing.Tie as tie

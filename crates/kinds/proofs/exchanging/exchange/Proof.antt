@@ -1,9 +1,9 @@
 -- `kinds::exchanging::exchange` meets its contract: both answers are the rules'. Assumes nothing.
 use native.Mathlib.Omega.{arith}
 use borrow.Author.Rules.{rules}
-use Rattle.tables.specs.LaidLaws.{count-within, writes-fit, laid}
+use Rattle.tables.proofs.LaidLaws.{count-within, writes-fit, laid}
 use Rattle.tables.specs.Shape.{shape}
-use Rattle.tables.specs.ViewLaws.{within-view}
+use Rattle.tables.proofs.ViewLaws.{within-view}
 use Rattle.kinds.specs.ExchangeLaws.{Sending, origins-read, sending, exchange-refused, exchange-done}
 use Rattle.kinds.proofs.exchanging.exchange.Statement.{statement}
 use Rattle.kinds.proofs.exchanging.exchange.Tie as tie

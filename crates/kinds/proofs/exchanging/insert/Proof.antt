@@ -3,8 +3,8 @@ use Prim.Native.Nat.{◌+◌, ◌≤◌}
 use mathlib.Core.Path.{refl}
 use native.Mathlib.Omega.{arith}
 use borrow.Author.Rules.{rules}
-use Rattle.tables.specs.LaidLaws.{laid}
-use Rattle.tables.specs.ViewLaws.{within-view, length-view, count-view}
+use Rattle.tables.proofs.LaidLaws.{laid}
+use Rattle.tables.proofs.ViewLaws.{within-view, length-view, count-view}
 use Rattle.kinds.specs.GrowLaws.{log-lent, log_back, writes-inserted}
 use Rattle.kinds.proofs.exchanging.insert.Statement.{statement}
 use Rattle.kinds.proofs.exchanging.insert.Tie as tie

@@ -3,7 +3,7 @@ use mathlib.Core.Path.{refl}
 use native.Mathlib.Omega.{arith}
 use borrow.Author.Rules.{rules}
 use Rattle.words.specs.LentLaws.{length-lent}
-use Rattle.tables.specs.ViewLaws.{within-view, length-view}
+use Rattle.tables.proofs.ViewLaws.{within-view, length-view}
 use Rattle.kinds.specs.ExchangeLaws.{writes-received}
 use Rattle.kinds.proofs.exchanging.receive.Statement.{statement}
 use Rattle.kinds.proofs.exchanging.receive.Tie as tie

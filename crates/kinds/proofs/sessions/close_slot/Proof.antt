@@ -2,8 +2,8 @@
 use mathlib.Core.Path.{refl}
 use native.Mathlib.Omega.{arith}
 use borrow.Author.Rules.{rules}
-use Rattle.tables.specs.LaidLaws.{laid}
-use Rattle.tables.specs.ViewLaws.{within-view, length-view}
+use Rattle.tables.proofs.LaidLaws.{laid}
+use Rattle.tables.proofs.ViewLaws.{within-view, length-view}
 use Rattle.kinds.specs.SessionLaws.{close-done, close-refused}
 use Rattle.kinds.proofs.sessions.close_slot.Statement.{statement}
 use Rattle.kinds.proofs.sessions.close_slot.Tie as tie

@@ -1,8 +1,8 @@
 -- `kinds::sessions::open_slot` meets its contract: both answers are the rules'. Assumes nothing.
 use native.Mathlib.Omega.{arith}
 use borrow.Author.Rules.{rules}
-use Rattle.tables.specs.LaidLaws.{laid}
-use Rattle.tables.specs.ViewLaws.{within-view, length-view}
+use Rattle.tables.proofs.LaidLaws.{laid}
+use Rattle.tables.proofs.ViewLaws.{within-view, length-view}
 use Rattle.kinds.specs.SessionLaws.{open_done, open-refused}
 use Rattle.kinds.proofs.sessions.open_slot.Statement.{statement}
 use Rattle.kinds.proofs.sessions.open_slot.Tie as tie

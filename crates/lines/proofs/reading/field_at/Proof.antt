@@ -1,7 +1,7 @@
 -- `lines::reading::field_at` meets its contract. Assumes nothing.
 use borrow.Author.Rules.{rules}
 use mathlib.Core.Path.{◌∙◌}
-use Rattle.lines.specs.FoundLaws.{begins-within, field-there, field-not-there}
+use Rattle.lines.proofs.FoundLaws.{begins-within, field-there, field-not-there}
 use native.Mathlib.Omega.{arith}
 use Rattle.lines.proofs.reading.field_at.Statement.{statement}
 use Rattle.lines.proofs.reading.field_at.Tie as tie

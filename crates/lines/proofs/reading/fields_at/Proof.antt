@@ -4,8 +4,8 @@ use borrow.Author.Rules.{rules}
 use Prim.Native.Nat.{◌≤◌, ◌-◌}
 use mathlib.Core.Path.{◌≡◌, refl}
 use lib.ListN.{length, length-set}
-use Rattle.lines.specs.FoundLaws.{begins-within}
-use Rattle.lines.specs.FieldLaws.{Filling, filling-starts, filling-on, filling-fails, filling-ends, filling-unended}
+use Rattle.lines.proofs.FoundLaws.{begins-within}
+use Rattle.lines.proofs.FieldLaws.{Filling, filling-starts, filling-on, filling-fails, filling-ends, filling-unended}
 use native.Mathlib.Omega.{arith}
 use Rattle.lines.proofs.reading.fields_at.Statement.{statement}
 use Rattle.lines.proofs.reading.fields_at.Tie as tie

@@ -1,6 +1,6 @@
 -- `lines::reading::is_at` meets its contract. Assumes nothing.
 use borrow.Author.Rules.{rules}
-use Rattle.lines.specs.FoundLaws.{begins-there, begins-nothing}
+use Rattle.lines.proofs.FoundLaws.{begins-there, begins-nothing}
 use Rattle.lines.proofs.reading.is_at.Statement.{statement}
 use Rattle.lines.proofs.reading.is_at.Tie as tie
 

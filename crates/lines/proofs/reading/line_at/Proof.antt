@@ -1,7 +1,7 @@
 -- `lines::reading::line_at` meets its contract. Assumes nothing.
 use borrow.Author.Rules.{rules}
 use mathlib.Core.Path.{◌∙◌}
-use Rattle.lines.specs.LineLaws.{line_first, line-later}
+use Rattle.lines.proofs.LineLaws.{line_first, line-later}
 use Rattle.lines.proofs.reading.line_at.Statement.{statement}
 use Rattle.lines.proofs.reading.line_at.Tie as tie
 

@@ -7,8 +7,8 @@ use lib.ListN.{length, drop}
 use Rattle.words.specs.CheckLaws.{failed, passed}
 use Rattle.lines.specs.Decimal.{greatest}
 use Rattle.lines.specs.Read.{more}
-use Rattle.lines.specs.DigitLaws.{digit_low, digit-high}
-use Rattle.lines.specs.FoundLaws.{more-stops, more-ends, more-passes, more-overflows}
+use Rattle.lines.proofs.DigitLaws.{digit_low, digit-high}
+use Rattle.lines.proofs.FoundLaws.{more-stops, more-ends, more-passes, more-overflows}
 use native.Mathlib.Omega.{arith}
 use Rattle.lines.proofs.reading.more_digits.Statement.{statement}
 use Rattle.lines.proofs.reading.more_digits.Tie as tie

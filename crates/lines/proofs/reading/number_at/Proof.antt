@@ -2,8 +2,8 @@
 use borrow.Author.Rules.{rules}
 use mathlib.Core.Path.{◌∙◌}
 use Rattle.words.specs.CheckLaws.{failed, passed}
-use Rattle.lines.specs.DigitLaws.{digit_low, digit-high}
-use Rattle.lines.specs.FoundLaws.{number-nothing, number-no-digit, number-zero, number_digits}
+use Rattle.lines.proofs.DigitLaws.{digit_low, digit-high}
+use Rattle.lines.proofs.FoundLaws.{number-nothing, number-no-digit, number-zero, number_digits}
 use native.Mathlib.Omega.{arith}
 use Rattle.lines.proofs.reading.number_at.Statement.{statement}
 use Rattle.lines.proofs.reading.number_at.Tie as tie

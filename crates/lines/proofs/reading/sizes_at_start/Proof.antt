@@ -1,7 +1,7 @@
 -- `lines::reading::sizes_at_start` meets its contract. Assumes nothing.
 use borrow.Author.Rules.{rules}
 use mathlib.Core.Path.{◌∙◌}
-use Rattle.lines.specs.LineLaws.{sizes-behind, sizes-none}
+use Rattle.lines.proofs.LineLaws.{sizes-behind, sizes-none}
 use Rattle.lines.proofs.reading.sizes_at_start.Statement.{statement}
 use Rattle.lines.proofs.reading.sizes_at_start.Tie as tie
 

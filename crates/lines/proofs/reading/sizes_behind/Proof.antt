@@ -1,6 +1,6 @@
 -- `lines::reading::sizes_behind` meets its contract. Assumes nothing.
 use borrow.Author.Rules.{rules}
-use Rattle.lines.specs.LineLaws.{sizes-found, sizes-lost}
+use Rattle.lines.proofs.LineLaws.{sizes-found, sizes-lost}
 use Rattle.lines.proofs.reading.sizes_behind.Statement.{statement}
 use Rattle.lines.proofs.reading.sizes_behind.Tie as tie
 

@@ -2,7 +2,7 @@
 use borrow.Author.Rules.{rules}
 use Prim.Native.Nat.{◌+◌}
 use mathlib.Core.Path.{◌∙◌}
-use Rattle.lines.specs.LineLaws.{step-nothing, step-unknown, step-known, arguments-found, arguments-lost}
+use Rattle.lines.proofs.LineLaws.{step-nothing, step-unknown, step-known, arguments-found, arguments-lost}
 use Rattle.lines.proofs.reading.step_at.Statement.{statement}
 use Rattle.lines.proofs.reading.step_at.Tie as tie
 

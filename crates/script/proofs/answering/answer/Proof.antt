@@ -4,7 +4,7 @@ use Prim.Native.Nat.{◌*◌}
 use mathlib.Core.Path.{sym, ◌∙◌}
 use lib.Seq.{take_at, length-take-le}
 use Rattle.tables.specs.Shape.{shape}
-use Rattle.script.specs.FreshLaws.{admissible-within, table-room, table-front}
+use Rattle.script.proofs.FreshLaws.{admissible-within, table-room, table-front}
 use native.Mathlib.Omega.{arith}
 use Rattle.script.proofs.answering.answer.Statement.{statement}
 use Rattle.script.proofs.answering.answer.Tie as tie

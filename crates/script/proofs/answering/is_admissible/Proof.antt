@@ -1,7 +1,7 @@
 -- `script::answering::is_admissible` meets its contract. Assumes nothing.
 use borrow.Author.Rules.{rules}
 use Rattle.tables.specs.Shape.{shape}
-use Rattle.script.specs.FreshLaws.{admissible-if, inadmissible}
+use Rattle.script.proofs.FreshLaws.{admissible-if, inadmissible}
 use Rattle.script.proofs.answering.is_admissible.Statement.{statement}
 use Rattle.script.proofs.answering.is_admissible.Tie as tie
 

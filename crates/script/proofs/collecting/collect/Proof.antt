@@ -59,7 +59,8 @@ use Rattle.lines.proofs.next.Symbol as next-def
 use Rattle.lines.proofs.next.Symbol.{name as #lines·next}
 use Rattle.lines.proofs.next.Met as next-thm
 use Rattle.script.specs.Listed.{PutPromise, goes_on}
-use Rattle.script.specs.WalkedLaws.{Walked, walked-fits, walked-ends, walked_next, lines_left, left_less}
+use Rattle.script.specs.WalkedLaws.{lines_left}
+use Rattle.script.proofs.WalkedLaws.{Walked, walked-fits, walked-ends, walked_next, left_less}
 use Rattle.script.specs.declared.collecting.Listed.{Listed}
 use Rattle.script.specs.declared.collecting.Listed.TheVariants.{Unread}
 use Rattle.script.proofs.Again.{LentAgain, lends_again, comes_back}

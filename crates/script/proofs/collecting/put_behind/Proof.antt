@@ -1,6 +1,6 @@
 -- `script::collecting::put_behind` meets its contract. Assumes nothing.
 use borrow.Author.Rules.{rules}
-use Rattle.script.specs.WalkedLaws.{put_full, put-good, put-bad}
+use Rattle.script.proofs.WalkedLaws.{put_full, put-good, put-bad}
 use Rattle.script.proofs.collecting.put_behind.Statement.{statement}
 use Rattle.script.proofs.collecting.put_behind.Tie as tie
 

@@ -2,7 +2,7 @@
 use borrow.Author.Rules.{rules}
 use mathlib.Core.Path.{sym, ap}
 use Rattle.script.specs.Listed.{answer_first}
-use Rattle.script.specs.WalkedLaws.{put-sizes, put_refused}
+use Rattle.script.proofs.WalkedLaws.{put-sizes, put_refused}
 use Rattle.script.proofs.collecting.put_first.Statement.{statement}
 use Rattle.script.proofs.collecting.put_first.Tie as tie
 

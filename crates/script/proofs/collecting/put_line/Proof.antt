@@ -2,7 +2,7 @@
 use borrow.Author.Rules.{rules}
 use mathlib.Core.Path.{refl, subst}
 use Rattle.script.specs.Listed.{Fits}
-use Rattle.script.specs.WalkedLaws.{put_same}
+use Rattle.script.proofs.WalkedLaws.{put_same}
 use Rattle.script.proofs.collecting.put_line.Statement.{statement}
 use Rattle.script.proofs.collecting.put_line.Tie as tie
 

@@ -6,8 +6,8 @@ use mathlib.Core.Path.{◌∙◌}
 use native.Mathlib.Omega.{arith}
 use Rattle.lines.specs.Line.{fields}
 use Rattle.script.specs.Reply.{bad_line}
-use Rattle.printing.specs.PrintedLaws.{puts_then, puts-more}
-use Rattle.script.specs.PromisedLaws.{length-bad_line}
+use Rattle.printing.proofs.PrintedLaws.{puts_then, puts-more}
+use Rattle.script.proofs.PromisedLaws.{length-bad_line}
 use Rattle.script.proofs.messages.bad_line.Statement.{statement}
 use Rattle.script.proofs.messages.bad_line.Tie as tie
 

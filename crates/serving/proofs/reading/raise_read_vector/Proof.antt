@@ -6,8 +6,8 @@ use lib.ListN.{length, take}
 use Rattle.words.specs.LentLaws.{length-lent}
 use Rattle.words.specs.Lists.{row}
 use Rattle.words.specs.RowLaws.{length-row}
-use Rattle.tables.specs.LaidLaws.{length-vector, laid}
-use Rattle.tables.specs.ViewLaws.{within-view, length-view}
+use Rattle.tables.proofs.LaidLaws.{length-vector, laid}
+use Rattle.tables.proofs.ViewLaws.{within-view, length-view}
 use Rattle.tables.specs.Layout.{decode}
 use Rattle.tables.specs.Shape.{shape}
 use Rattle.serving.specs.ReadLaws.{vector-copied, read-raised}

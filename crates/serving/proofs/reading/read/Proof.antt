@@ -3,7 +3,7 @@ use borrow.Author.Rules.{rules}
 use Rattle.serving.specs.ServedLaws.{slot-open, read-shut, read-unreachable, read_behind, read-not-full, read_below, read-served}
 use Rattle.choice.specs.Outcome.{Asking}
 use Rattle.tables.specs.Shape.{shape}
-use Rattle.tables.specs.LaidLaws.{laid}
+use Rattle.tables.proofs.LaidLaws.{laid}
 use Rattle.serving.proofs.reading.read.Statement.{statement}
 use Rattle.serving.proofs.reading.read.Tie as tie
 

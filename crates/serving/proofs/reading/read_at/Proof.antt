@@ -1,8 +1,8 @@
 -- `serving::reading::read_at` meets its contract: answer and table are those of the rules' read at this server. Assumes nothing.
 use native.Mathlib.Omega.{arith}
 use borrow.Author.Rules.{rules}
-use Rattle.tables.specs.LaidLaws.{writes-fit, last_used_at-from, laid}
-use Rattle.tables.specs.ViewLaws.{within-view, length-view}
+use Rattle.tables.proofs.LaidLaws.{writes-fit, last_used_at-from, laid}
+use Rattle.tables.proofs.ViewLaws.{within-view, length-view}
 use Rattle.serving.specs.ReadLaws.{read_done}
 use Rattle.serving.proofs.reading.read_at.Statement.{statement}
 use Rattle.serving.proofs.reading.read_at.Tie as tie

@@ -3,7 +3,7 @@ use borrow.Author.Rules.{rules}
 use Rattle.serving.specs.ServedLaws.{slot-open, write-shut, write-unreachable, write-behind, write-full, write-below, write-room, write-served}
 use Rattle.choice.specs.Outcome.{Asking}
 use Rattle.tables.specs.Shape.{shape}
-use Rattle.tables.specs.LaidLaws.{laid}
+use Rattle.tables.proofs.LaidLaws.{laid}
 use Rattle.serving.proofs.writing.write.Statement.{statement}
 use Rattle.serving.proofs.writing.write.Tie as tie
 

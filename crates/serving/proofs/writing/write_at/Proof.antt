@@ -2,9 +2,9 @@
 use native.Mathlib.Omega.{arith}
 use borrow.Author.Rules.{rules}
 use lib.ListN.{length-set}
-use Rattle.tables.specs.LaidLaws.{vector_at-from, write_at-from, last_used_at-from, laid}
+use Rattle.tables.proofs.LaidLaws.{vector_at-from, write_at-from, last_used_at-from, laid}
 use Rattle.tables.specs.Shape.{shape}
-use Rattle.tables.specs.ViewLaws.{within-view, length-view}
+use Rattle.tables.proofs.ViewLaws.{within-view, length-view}
 use Rattle.serving.specs.WriteLaws.{greatest-small, clock-next, write_done}
 use Rattle.serving.proofs.writing.write_at.Statement.{statement}
 use Rattle.serving.proofs.writing.write_at.Tie as tie

@@ -1,0 +1,17 @@
+pub mod Accepted
+pub mod BookLaws
+pub mod Guarantees
+pub mod LeastLaws
+pub mod MatchingKept
+pub mod MatchingLaws
+pub mod Met
+pub mod Moments
+pub mod NewestLaws
+pub mod Opening
+pub mod Propagation
+pub mod Remembering
+pub mod Schedule
+pub mod Session
+pub mod Sessions
+pub mod Simulation
+pub mod TermLaws

@@ -1,0 +1,2 @@
+pub mod AskingLaws
+pub mod OutcomeLaws

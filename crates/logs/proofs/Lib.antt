@@ -1,0 +1,9 @@
+pub mod AscendingLaws
+pub mod CongLaws
+pub mod EntryLaws
+pub mod InsertLaws
+pub mod LogLaws
+pub mod LogTestLaws
+pub mod OrderedLaws
+pub mod PlacesLaws
+pub mod WriteLaws

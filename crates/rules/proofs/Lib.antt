@@ -1,0 +1,14 @@
+pub mod Acceptance
+pub mod Arrivals
+pub mod CallLaws
+pub mod ChoiceLaws
+pub mod CodeLaws
+pub mod CurrentLaws
+pub mod DoneLaws
+pub mod Effects
+pub mod Exact
+pub mod Figure1
+pub mod Rows
+pub mod RunLaws
+pub mod SoundKept
+pub mod StepLaws

@@ -1,0 +1,15 @@
+pub mod BoundLaws
+pub mod DecodeLaws
+pub mod Growth
+pub mod LaidLaws
+pub mod LayoutLaws
+pub mod MakeLaws
+pub mod MeaningLaws
+pub mod OffsetLaws
+pub mod PutLaws
+pub mod ShapeLaws
+pub mod SizeLaws
+pub mod SlotLaws
+pub mod SoundStateLaws
+pub mod StateLaws
+pub mod ViewLaws

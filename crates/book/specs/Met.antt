@@ -9,57 +9,57 @@ use Rattle.rules.specs.Choice.{read_your_writes, monotonic_reads, writes_follow_
 use Rattle.book.specs.Terms.{Stores, DependsOn, after, Reads, Writes, Opens, Lasts, Chose}
 
 -- Two servers, four places, one slot; a session that chose all four.
-abbrev small : Size
+abbrev pub small : Size
 small = record { n = 2; l = 4; p = 1 }
 
-abbrev words : ℕ → ℕ → ℕ → ℕ → ℕ → Step
+abbrev pub words : ℕ → ℕ → ℕ → ℕ → ℕ → Step
 words kind a b c d = record { kind = kind; a = a; b = b; c = c; d = d }
 
-abbrev opening-step : Step
+abbrev pub opening-step : Step
 opening-step = words 1 0 15 0 0
 
 -- A write at server 0, an exchange to server 1, a read and a write there, an exchange back, and a read at server 0.
-abbrev write-at-0 : Step
+abbrev pub write-at-0 : Step
 write-at-0 = words 4 0 7 50 1
 
-abbrev exchange-over : Step
+abbrev pub exchange-over : Step
 exchange-over = words 5 0 1 9 0
 
-abbrev read-at-1 : Step
+abbrev pub read-at-1 : Step
 read-at-1 = words 3 0 7 2 0
 
-abbrev write-at-1 : Step
+abbrev pub write-at-1 : Step
 write-at-1 = words 4 0 7 60 2
 
-abbrev exchange-back : Step
+abbrev pub exchange-back : Step
 exchange-back = words 5 1 0 9 0
 
-abbrev read-at-0 : Step
+abbrev pub read-at-0 : Step
 read-at-0 = words 3 0 7 1 0
 
-abbrev first-write : Write
+abbrev pub first-write : Write
 first-write = record { origin = 0; clock = 1; item = 7; value = 50 }
 
-abbrev second-write : Write
+abbrev pub second-write : Write
 second-write = record { origin = 1; clock = 2; item = 7; value = 60 }
 
 -- The tables before each of these steps, and at the end.
-abbrev at_1 : List ℕ
+abbrev pub at_1 : List ℕ
 at_1 = after (fresh small) (opening-step ∷ [])
 
-abbrev at-2 : List ℕ
+abbrev pub at-2 : List ℕ
 at-2 = after at_1 (write-at-0 ∷ [])
 
-abbrev at-3 : List ℕ
+abbrev pub at-3 : List ℕ
 at-3 = after at-2 (exchange-over ∷ [])
 
-abbrev at-4 : List ℕ
+abbrev pub at-4 : List ℕ
 at-4 = after at-3 (read-at-1 ∷ [])
 
-abbrev at_5 : List ℕ
+abbrev pub at_5 : List ℕ
 at_5 = after at-4 (write-at-1 ∷ [])
 
-abbrev at-6 : List ℕ
+abbrev pub at-6 : List ℕ
 at-6 = after at_5 (exchange-back ∷ [])
 
 pub record Met : Type 0 where

@@ -5,5 +5,5 @@ use Rattle.rules.specs.Step.{Step}
 use Rattle.rules.specs.Calls.{step}
 
 -- The step is of this kind, for slot k, and accepted.
-abbrev Done : List ℕ → Step → ℕ → ℕ → Type 0
+abbrev pub Done : List ℕ → Step → ℕ → ℕ → Type 0
 Done t x kind k = (x.kind ≡ kind) × (x.a ≡ k) × ((step t x).answer.code ≡ 0)

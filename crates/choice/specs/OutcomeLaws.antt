@@ -12,5 +12,5 @@ pub data Judged (up_to_date serving : Bool) : ℕ → Type 0 where
   is-behind : up_to_date ≡ false → serving ≡ false → Judged up_to_date serving 6
 
 -- The code and the server of an answer.
-abbrev answered : Answer → Valued
+abbrev pub answered : Answer → Valued
 answered r = record { code = r.code; server = r.server }

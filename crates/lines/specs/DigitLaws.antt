@@ -9,5 +9,5 @@ pub data NoDigit : List ℕ → Type 0 where
   other : {b : ℕ} {bs : List ℕ} → is_digit b ≡ false → NoDigit (b ∷ bs)
 
 -- What the reading of a number found.
-abbrev Spelled : List ℕ → Got ℕ → Type 0
+abbrev pub Spelled : List ℕ → Got ℕ → Type 0
 Spelled bs g = (bs ≡ decimal g.value ++ g.rest) × (g.value ≤ greatest)

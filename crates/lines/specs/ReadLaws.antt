@@ -11,10 +11,10 @@ pub data AllFit : ℕ → List ℕ → Type 0 where
   fit-more : {k x : ℕ} {xs : List ℕ} → Fits x → AllFit k xs → AllFit (suc k) (x ∷ xs)
 
 -- What the reading of a field found, and that of so many.
-abbrev FieldSaid : List ℕ → Got ℕ → Type 0
+abbrev pub FieldSaid : List ℕ → Got ℕ → Type 0
 FieldSaid bs g = (bs ≡ 32 ∷ (decimal g.value ++ g.rest)) × Fits g.value
 
-abbrev FieldsSaid : ℕ → List ℕ → Got (List ℕ) → Type 0
+abbrev pub FieldsSaid : ℕ → List ℕ → Got (List ℕ) → Type 0
 FieldsSaid k bs g = (bs ≡ fields g.value ++ g.rest) × AllFit k g.value
 
 -- A text that begins with the spelling of a step.

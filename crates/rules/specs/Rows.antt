@@ -16,7 +16,7 @@ pub record Row : Type 0 where
   pub clock : ℕ
   pub value : ℕ
 
-abbrev line : (kind a b c d code server origin clock value : ℕ) → Row
+abbrev pub line : (kind a b c d code server origin clock value : ℕ) → Row
 line kind a b c d code server origin clock value =
     record { kind = kind; a = a; b = b; c = c; d = d; code = code; server = server; origin = origin; clock = clock; value = value }
 
@@ -36,10 +36,10 @@ rows =
     ∷ []
 
 -- What a row asks, and what it gets.
-abbrev asks : Row → Step
+abbrev pub asks : Row → Step
 asks r = record { kind = r.kind; a = r.a; b = r.b; c = r.c; d = r.d }
 
-abbrev gets : Row → Answer
+abbrev pub gets : Row → Answer
 gets r = record { code = r.code; server = r.server; origin = r.origin; clock = r.clock; value = r.value }
 
 -- Of all ten.
@@ -50,11 +50,11 @@ abbrev pub ten-answers : List Answer
 ten-answers = map gets rows
 
 -- The same in words, in the order in which a row has them, whatever order `step_words` and `answer_words` may have.
-abbrev asked-words : List Row → List ℕ
+abbrev pub asked-words : List Row → List ℕ
 asked-words [] = []
 asked-words (r ∷ rs) = r.kind ∷ r.a ∷ r.b ∷ r.c ∷ r.d ∷ asked-words rs
 
-abbrev answered-words : List Row → List ℕ
+abbrev pub answered-words : List Row → List ℕ
 answered-words [] = []
 answered-words (r ∷ rs) = r.code ∷ r.server ∷ r.origin ∷ r.clock ∷ r.value ∷ answered-words rs
 

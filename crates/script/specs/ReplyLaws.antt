@@ -5,5 +5,5 @@ use Rattle.rules.specs.Step.{Step}
 use Rattle.lines.specs.Read.{Got}
 
 -- What is read of a first line.
-abbrev first : Size → List ℕ → Got Step
+abbrev pub first : Size → List ℕ → Got Step
 first z rest = record { value = record { kind = 0; a = z.n; b = z.l; c = z.p; d = 0 }; rest = rest }

@@ -6,14 +6,14 @@ use Rattle.rules.specs.Rows.{small, ten-steps}
 use Rattle.lines.specs.Line.{fields, size_line}
 
 -- The line of a step of these rows: o, w, r or x, and its numbers.
-abbrev line_of : Step → List ℕ
+abbrev pub line_of : Step → List ℕ
 line_of x =
     cond (eqb x.kind 1) (111 ∷ fields (x.a ∷ x.b ∷ []))
     (cond (eqb x.kind 4) (119 ∷ fields (x.a ∷ x.b ∷ x.c ∷ x.d ∷ []))
     (cond (eqb x.kind 3) (114 ∷ fields (x.a ∷ x.b ∷ x.c ∷ []))
     (120 ∷ fields (x.a ∷ x.b ∷ x.c ∷ []))))
 
-abbrev lines_of : List Step → List ℕ
+abbrev pub lines_of : List Step → List ℕ
 lines_of [] = []
 lines_of (x ∷ xs) = line_of x ++ lines_of xs
 

@@ -1,6 +1,6 @@
+-- `printing::put_bytes` meets its contract.
 use borrow.Author.Rules.{rules}
-use Prim.Native.Nat.{◌+◌, ◌-◌, ◌≤◌}
-use mathlib.Core.Path.{◌≡◌, refl}
+use mathlib.Core.Path.{refl}
 use Rattle.printing.proofs.PrintedLaws.{puts_none, puts-next, puts-all}
 use Rattle.printing.proofs.put_bytes.Goals as goal
 

@@ -1,7 +1,7 @@
 -- `fill` meets its contract. Assumes nothing.
-use Rattle.std.proofs.Common.{◌≡◌, ℕ, ◌+◌, ◌≤◌, List, ◌++◌, Option, arith, rules, ap, sym, ◌∙◌, subst, length, take, drop, take-add}
+use Rattle.std.proofs.Common.{◌≡◌, ℕ, ◌+◌, List, ◌++◌, Option, rules, ap, sym, ◌∙◌, subst, take, drop, take-add}
 use Rattle.std.specs.Io.KnownBytes.{Consumes}
-use Rattle.std.proofs.KnownBytes.{Consumes-trans, Consumes-nil}
+use Rattle.std.proofs.KnownBytes.{Consumes-trans}
 use Rattle.desk.proofs.reading.fill.Goals as goal
 
 -- What was read behind the front lengthens it.

@@ -9,7 +9,6 @@ use Rattle.words.specs.Tests.{implies}
 use Rattle.vectors.specs.Vector.{dominates, vector_of}
 use Rattle.vectors.specs.VectorLaws.{dominates-held}
 use Rattle.tables.specs.Size.{Size}
-use Rattle.tables.specs.SizeLaws.{Within}
 use Rattle.tables.specs.Shape.{Laid}
 use Rattle.tables.specs.Layout.{decode, vector_at, count_at, read_at, write_at, guarantees_at, last_used_at}
 use Rattle.tables.proofs.LaidLaws.{laid}

@@ -16,7 +16,7 @@ use Rattle.tables.specs.State.{State, Session}
 use Rattle.rules.specs.Choice.{up_to_date_to_read, up_to_date_to_write, has_room, may_write_to, reaches, start_of, next, onwards, around, choose}
 use Rattle.logs.specs.Write.{Write}
 use Rattle.logs.specs.Log.{last_on}
-use Rattle.rules.specs.Step.{Answer, refused}
+use Rattle.rules.specs.Step.{refused}
 use Rattle.rules.specs.Rules.{refuse, read_answer, read_from, write_answer, write_to}
 use Rattle.choice.specs.declared.Choice.{Choice}
 use Rattle.choice.specs.declared.Choice.TheVariants.{At, Behind, Full}

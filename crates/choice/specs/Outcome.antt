@@ -9,7 +9,7 @@ use Rattle.tables.specs.State.{State, Session, opened}
 use Rattle.tables.specs.Sessions.{session}
 use Rattle.tables.specs.Layout.{decode}
 use Rattle.tables.specs.Meaning.{Means}
-use Rattle.rules.specs.Choice.{up_to_date_to_read, up_to_date_to_write, has_room, may_write_to, reaches, start_of, around, choose}
+use Rattle.rules.specs.Choice.{up_to_date_to_read, up_to_date_to_write, has_room, may_write_to, reaches, start_of, choose}
 use Rattle.choice.specs.declared.Choice.{Choice}
 use Rattle.choice.specs.declared.Choice.TheVariants.{At, Behind, Full}
 

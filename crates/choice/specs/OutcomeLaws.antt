@@ -1,5 +1,5 @@
 -- The search in the loop's order finds what the rules' two searches find, and that is what the rules answer. Assumes nothing.
-use Prim.Native.Nat.{ℕ, ◌-◌}
+use Prim.Native.Nat.{ℕ}
 use Rattle.std.specs.Prelude.{Bool, ◌≡◌}
 use Rattle.std.proofs.Math.Bool.{true, false}
 use Rattle.rules.specs.Step.{Answer}

@@ -6,11 +6,10 @@ use Rattle.std.proofs.Math.Path.{ap}
 use borrow.Author.Tests.{ne_eqb, ltb-true}
 use Rattle.words.specs.TestLaws.{cond-true, cond-false, and_left, and_right}
 use Rattle.tables.specs.Size.{Size, sums}
-use Rattle.tables.specs.Sound.{sound}
 use Rattle.tables.specs.State.{State}
-use Rattle.tables.specs.Layout.{size_of, encode, decode}
+use Rattle.tables.specs.Layout.{encode, decode}
 use Rattle.tables.specs.Meaning.{Means}
-use Rattle.tables.proofs.MeaningLaws.{means-sound, means-size, means-state, sound-means}
+use Rattle.tables.proofs.MeaningLaws.{means-sound, means-size, sound-means}
 use Rattle.rules.specs.Step.{Step, Op, bad, opens, closes, reads, writes, exchanges, open_in_range, close_in_range, read_in_range, write_in_range, exchange_in_range, if_in_range, of_kind, asked, Answer, refused}
 use Rattle.rules.specs.Rules.{rule, obeyed}
 use Rattle.rules.proofs.CallLaws.{step-means, means-next}

@@ -1,15 +1,15 @@
 -- A read and a write by what is found on the way: the slot, the reach, and the outcome of the search. Assumes nothing.
-use Rattle.std.specs.Prelude.{ℕ, ◌<◌, Bool, true, false, ◌&&◌, cond, List, ◌≡◌, refl, eqb, length, get_or}
+use Rattle.std.specs.Prelude.{ℕ, ◌<◌, true, false, List, ◌≡◌, refl, eqb, length, get_or}
 use Rattle.std.proofs.Math.Option.{Option, none, some}
 use Rattle.std.proofs.Common.{sym, ◌∙◌, arith}
 use Rattle.std.proofs.Math.Path.{ap, ap₂, subst}
 use borrow.Author.Tests.{eq-eqb, ne_eqb, ltb-true}
 use Rattle.words.specs.TestLaws.{cond-true, cond-false, and_right}
 use Rattle.tables.specs.Size.{Size}
-use Rattle.tables.specs.State.{State, Session, Slot, closed, opened}
-use Rattle.tables.specs.Layout.{encode, decode, guarantees_at}
+use Rattle.tables.specs.State.{closed}
+use Rattle.tables.specs.Layout.{decode, guarantees_at}
 use Rattle.tables.proofs.ViewLaws.{shut-view, open-view}
-use Rattle.rules.specs.Step.{Op, opens, closes, reads, writes, exchanges, Answer, refused}
+use Rattle.rules.specs.Step.{reads, writes, Answer, refused}
 use Rattle.rules.specs.Choice.{start_of, choose, up_to_date_to_read, up_to_date_to_write, has_room, may_write_to}
 use Rattle.rules.specs.Chosen.{Chosen}
 use Rattle.rules.proofs.ChoiceLaws.{choose-some}

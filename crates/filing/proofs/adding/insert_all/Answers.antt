@@ -1,4 +1,3 @@
-use Prim.Native.Nat.{◌+◌}
 use Rattle.filing.specs.MergeLaws.{log_last-some, merging_start, merging-log, merging-batch, merging-end}
 use mathlib.Core.Path.{sym, ◌∙◌}
 use native.Mathlib.Omega.{arith}
@@ -11,19 +10,19 @@ pub overflow_sub-i : goal.overflow_sub-i
 overflow_sub-i c = log_last-some _ _ _ _ (sym c.log_last.ensures ∙ c.if-log_last.true)
 
 pub entry_at-x-requires : goal.entry_at-x-requires
-entry_at-x-requires c κs = omega (arith, sub-entry-at c)
+entry_at-x-requires c = omega (arith, log_last-some _ _ _ _ (sym c.log_last.ensures ∙ c.if-log_last.true))
 
 pub overflow_sub-i-then-log_last : goal.overflow_sub-i-then-log_last
-overflow_sub-i-then-log_last c = omega (arith, sub-entry-at c)
+overflow_sub-i-then-log_last c = omega (arith, log_last-some _ _ _ _ (sym c.log_last.ensures ∙ c.if-log_last.true))
 
 pub overflow_add-i : goal.overflow_add-i
-overflow_add-i c = omega (arith, sub-entry-at c)
+overflow_add-i c = omega (arith, log_last-some _ _ _ _ (sym c.log_last.ensures ∙ c.if-log_last.true))
 
 pub put-requires : goal.put-requires
-put-requires c κs = omega (arith, sub-entry-at c)
+put-requires c = omega (arith, log_last-some _ _ _ _ (sym c.log_last.ensures ∙ c.if-log_last.true))
 
 pub loop-j-smaller-then-log_last : goal.loop-j-smaller-then-log_last
-loop-j-smaller-then-log_last c = omega (arith, sub-entry-at c)
+loop-j-smaller-then-log_last c = omega (arith, log_last-some _ _ _ _ (sym c.log_last.ensures ∙ c.if-log_last.true))
 
 pub loop-j-preserved-then-log_last : goal.loop-j-preserved-then-log_last
 loop-j-preserved-then-log_last c =

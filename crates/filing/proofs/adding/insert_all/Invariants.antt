@@ -1,7 +1,6 @@
 -- `filing::adding::insert_all` meets its contract. The loop's invariant: the writes passed, from the last down, stand in their places.
 use Prim.Native.Nat.{◌+◌}
 use Rattle.filing.specs.Merge.{Merging}
-use mathlib.Core.Path.{◌∙◌}
 use Rattle.filing.proofs.adding.insert_all.Given as goal
 
 abbrev pub invariant-loop-j : goal.invariant-loop-j

@@ -1,8 +1,7 @@
 use borrow.Author.Rules.{rules}
-use Prim.Native.Nat.{◌≤◌}
 use Rattle.filing.specs.Found.{last_of}
 use Rattle.filing.specs.FindingLaws.{last_found, last-passed, last_none}
-use mathlib.Core.Path.{◌≡◌, refl, sym}
+use mathlib.Core.Path.{refl, sym}
 use Rattle.filing.proofs.finding.last_on.Goals as goal
 
 pub loop-e-init : goal.loop-e-init

@@ -5,7 +5,7 @@ use Rattle.logs.specs.Places.{entries}
 use Rattle.vectors.specs.Vector.{vector_of}
 use Rattle.words.specs.Lists.{row}
 use lib.ListN.{length}
-use mathlib.Core.Path.{◌≡◌, ◌∙◌}
+use mathlib.Core.Path.{◌≡◌}
 use Rattle.filing.proofs.sending.follow.Given as goal
 
 abbrev pub invariant-loop-e : goal.invariant-loop-e

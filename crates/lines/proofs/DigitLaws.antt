@@ -1,5 +1,5 @@
 -- Reading a number finds exactly the numbers' spellings. Assumes nothing.
-use Rattle.std.specs.Prelude.{ℕ, zero, suc, ◌+◌, ◌-◌, ◌*◌, ◌/◌, ◌%◌, ◌<◌, ◌≤◌, true, false, List, [], ◌∷◌, ◌++◌, ◌≡◌, refl, leb, eqb}
+use Rattle.std.specs.Prelude.{ℕ, zero, suc, ◌+◌, ◌-◌, ◌*◌, ◌/◌, ◌%◌, ◌<◌, ◌≤◌, true, List, [], ◌∷◌, ◌++◌, ◌≡◌, refl, leb, eqb}
 use Rattle.std.proofs.Common.{append_assoc, ⊎_elim, sym, ◌∙◌, ap, ap₂, arith, leb-true, le-leb, eqb-true, ne_eqb}
 use Rattle.std.proofs.Math.Option.{Option, some}
 use Rattle.std.proofs.lemmas.Bool.{eqb-false}
@@ -97,10 +97,10 @@ more-spelled s (b ∷ bs) g low fits =
     (λ large. none-some))
     (λ behind. some_is (Spelled (decimal s ++ b ∷ bs)) (refl, fits))
 
-pub read_number : (bs : List ℕ) (g : Got ℕ) → read_number bs ≡ some g → (bs ≡ decimal g.value ++ g.rest) × (g.value ≤ greatest)
+pub read-number : (bs : List ℕ) (g : Got ℕ) → read_number bs ≡ some g → (bs ≡ decimal g.value ++ g.rest) × (g.value ≤ greatest)
 unfolding read_number
-read_number [] g = none-some
-read_number (b ∷ bs) g =
+read-number [] g = none-some
+read-number (b ∷ bs) g =
     cond-elim (λ (o : Option (Got ℕ)). o ≡ some g → Spelled (b ∷ bs) g) (is_digit b)
     (λ digit. cond-elim (λ (o : Option (Got ℕ)). o ≡ some g → Spelled (b ∷ bs) g) (eqb b 48)
     (λ zero h.

@@ -1,5 +1,5 @@
 -- A line has one line feed, and it stands at its end: so the lines of a text are told apart by its line feeds. Assumes nothing.
-use Rattle.std.specs.Prelude.{ℕ, zero, suc, ◌+◌, ◌/◌, ◌%◌, cond, List, [], ◌∷◌, ◌++◌, ◌≡◌, refl, ltb, eqb}
+use Rattle.std.specs.Prelude.{ℕ, zero, suc, ◌+◌, ◌/◌, ◌%◌, List, [], ◌∷◌, ◌++◌, ◌≡◌, refl, ltb, eqb}
 use Rattle.std.proofs.Common.{◌∙◌, ap₂, arith, ne_eqb}
 use Rattle.words.specs.TestLaws.{cond-elim, cond-false}
 use Rattle.tables.specs.Size.{Size}

@@ -1,5 +1,3 @@
-pub mod Lent
-pub mod Passed
 pub mod DecimalLaws
 pub mod DigitLaws
 pub mod FeedLaws

@@ -10,7 +10,7 @@ use Rattle.lines.specs.Line.{fields, numbers, size_line, Fits, StepLine, opens, 
 use Rattle.lines.specs.Read.{Got, chain, begins, is_digit, read_number, read_field, prepend, read_fields, kind_of, count_of, step_with, read_arguments, read_step, read_sizes_behind, read_sizes}
 use Rattle.lines.proofs.GotLaws.{some_is, none-some, chained, begins-is}
 use Rattle.lines.specs.DigitLaws.{NoDigit, other}
-use Rattle.lines.proofs.DigitLaws.{number_read, read_number}
+use Rattle.lines.proofs.DigitLaws.{number_read, read-number}
 use Rattle.lines.specs.ReadLaws.{AllFit, FieldSaid, FieldsSaid, StepSaid, fit-more, fit_none}
 
 -- ---- fields
@@ -35,7 +35,7 @@ unfolding read_field
 read-field bs g =
     cond-elim (λ (o : Option (Got ℕ)). o ≡ some g → FieldSaid bs g) (begins 32 bs)
     (λ space h.
-    let so = read_number (drop 1 bs) g h in
+    let so = read-number (drop 1 bs) g h in
     (begins-is 32 bs space ∙ ap (λ t. 32 ∷ t) so.0, so.1))
     (λ nothing. none-some)
 
@@ -146,7 +146,7 @@ read-sizes bs g h =
     let c = chained (read_number bs) read_sizes_behind g h in
     let n = c.found.value in
     let d = chained (read_fields 2 c.found.rest) _ g c.next-is in
-    let first = read_number bs c.found c.first-is in
+    let first = read-number bs c.found c.first-is in
     let others = read-fields 2 c.found.rest d.found d.first-is in
     some_is (λ (r : Got Step). bs ≡ size_line (record { n = r.value.a; l = r.value.b; p = r.value.c }) ++ r.rest)
     (first.0 ∙ (ap (λ t. decimal n ++ t) others.0 ∙ (sym (append_assoc (decimal n) (fields d.found.value) d.found.rest) ∙ ap (λ t. t ++ d.found.rest) (sym (sizes-fit n others.1)))))

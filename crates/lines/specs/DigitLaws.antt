@@ -1,5 +1,5 @@
 -- Reading a number finds exactly the numbers' spellings. Assumes nothing.
-use Rattle.std.specs.Prelude.{ℕ, ◌+◌, ◌≤◌, false, List, [], ◌∷◌, ◌++◌, ◌≡◌}
+use Rattle.std.specs.Prelude.{ℕ, ◌≤◌, false, List, [], ◌∷◌, ◌++◌, ◌≡◌}
 use Rattle.lines.specs.Decimal.{decimal, greatest}
 use Rattle.lines.specs.Read.{Got, is_digit}
 

@@ -2,7 +2,7 @@
  * A client to start from. Two servers copy case notes from each other now and then; an agent writes a note at one of them and wants to
  * read it at the other.
  *
- *     rt staticlib yittomere
+ *     tools/library.sh
  *     cc -I include examples/client.c target/staticlib/libyittomere.a -o target/client-example
  *     target/client-example
  *

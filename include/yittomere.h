@@ -28,7 +28,7 @@
  *    promised, since what the calls do is proved of separate buffers. They may touch, as parts of one array. An empty buffer
  *    overlaps none.
  *
- * Build with:  rt staticlib yittomere
+ * Build with:  tools/library.sh
  * Link with:   cc -I include client.c target/staticlib/libyittomere.a     (Linux on x86-64)
  */
 #ifndef YITTOMERE_H

@@ -1,6 +1,6 @@
 #!/usr/bin/env bash
 # Makes the library and times its calls on the largest table, beside the Rust procedures of tests/outside on the same words, built in two ways.
-# It wants cargo, and a processor that the library is compiled for.
+# It wants cargo.
 set -u
 cd "$(dirname "$(readlink -f "${BASH_SOURCE[0]}")")/.." || exit 1
 . tools/cargo.sh
@@ -10,14 +10,11 @@ give_up() {
     exit 1
 }
 
-if [ "$HOSTTYPE" != x86_64 ]; then
-    give_up "the library is compiled for x86-64, and this is $HOSTTYPE: times under an emulator tell nothing"
-fi
 have_cargo tools/benchmark.sh || exit 1
 command -v rt >/dev/null || give_up "'rt' is not on the path"
 
 mkdir -p target
-if ! rt staticlib yittomere >target/benchmark-library.log 2>&1; then
+if ! tools/library.sh >target/benchmark-library.log 2>&1; then
     tail -n 20 target/benchmark-library.log >&2
     give_up "the library can't be made"
 fi

@@ -2,12 +2,8 @@
 
 # Installs from Debian's packages what is missing.
 install_missing() {
-    local compilers=(x86_64-linux-gnu-g++ g++-x86-64-linux-gnu x86_64-linux-gnu-nm binutils-x86-64-linux-gnu)
-    if [ "$HOSTTYPE" = x86_64 ]; then
-        compilers=(c++ g++ nm binutils valgrind valgrind)
-    fi
-    set -- cargo cargo "${compilers[@]}"
     local missing=()
+    set -- cargo cargo c++ g++ nm binutils valgrind valgrind
     while [ $# -ge 2 ]; do
         PATH=$PATH:${CARGO_HOME:-${HOME:-/root}/.cargo}/bin command -v "$1" >/dev/null || missing+=("$2")
         shift 2

@@ -3,11 +3,10 @@
 
 kit=$room/kit
 mkdir "$kit"
-true_rt=$(command -v rt)
 
-# The body of the `rt` that ./desk will find. Where the kit stands it says truly: on some processors its emulator runs the program.
+# The body of the `rt` that ./desk will find.
 rt_is() { # SHELL-TEXT
-    printf '#!/bin/sh\n[ "$1" = doc ] && exec %q doc\n%s\n' "$true_rt" "$1" >"$kit/rt"
+    printf '#!/bin/sh\n%s\n' "$1" >"$kit/rt"
     chmod +x "$kit/rt"
 }
 
@@ -49,7 +48,7 @@ explained() { # NAME
 }
 
 rows=$PWD/examples/ten-rows
-rt_is 'echo "the sources look newer than target/bin/desk; build it, or call ./desk once"; exit 1'
+rt_is 'echo "the sources look newer than crates/desk/out/desk; build it, or call ./desk once"; exit 1'
 
 # Of this folder
 run_command ./desk examples/ten-rows.txt
@@ -78,12 +77,11 @@ settle 'a reply that finds no room where it goes is told' $?
 
 # In a house of its own with the built program and one source, where dates can be set
 house="$room/a house"
-mkdir -p "$house/crates/desk/src" "$house/target/bin" "$house/tools"
+mkdir -p "$house/crates/desk/src" "$house/crates/desk/out"
 cp desk "$house/desk"
-cp tools/emulator.sh "$house/tools/emulator.sh"
 cp "$program" "$house/built"
 touch -d '2001-01-01' "$house/crates.txt" "$house/crates/desk/src/main.rt" "$house/crates/desk/src"
-cp "$house/built" "$house/target/bin/desk"
+cp "$house/built" "$house/crates/desk/out/desk"
 mkdir "$room/elsewhere"
 cp "$rows.txt" "$room/elsewhere/script.txt"
 ln -s "$house/desk" "$room/elsewhere/linked"
@@ -95,30 +93,30 @@ run_command ./linked script.txt
 printed 'called through a link' "$rows.out" 0
 
 # A build talks on both outputs, and would swallow standard input if it were given it.
-rt_is 'cat; echo proved; echo noise >&2; echo "$PWD: $*"; cp built target/bin/desk'
-rm "$house/target/bin/desk"
+rt_is 'cat; echo proved; echo noise >&2; echo "$PWD: $*"; cp ../../built out/desk'
+rm "$house/crates/desk/out/desk"
 run_command '../a house/desk' <script.txt
 printed 'the program is missing: it is built, in one line on standard error' "$rows.out" 1
-printf 'proved\nnoise\n%s: check desk\n' "$house" >"$room/expected"
+printf 'proved\nnoise\n%s: run\n' "$house/crates/desk" >"$room/expected"
 cp "$house/target/desk-build.log" "$room/got"
 settle 'what the build says goes to its log' "$status"
 
 # As rt does when a source has a new date and its old text: it succeeds and leaves the program as it is.
 rt_is 'exit 0'
-touch -d '2000-01-01' "$house/target/bin/desk"
+touch -d '2000-01-01' "$house/crates/desk/out/desk"
 run_command '../a house/desk' script.txt
 printed 'a source is newer than the program: it is built' "$rows.out" 1
 rt_is 'exit 1'
 run_command '../a house/desk' script.txt
 printed 'once built, it is not built again' "$rows.out" 0
-touch -d '2000-01-01' "$house/target/bin/desk"
+touch -d '2000-01-01' "$house/crates/desk/out/desk"
 touch -d '1999-01-01' "$house/crates/desk/src/main.rt" "$house/crates/desk/src"
 run_command '../a house/desk' script.txt
 refused 'crates.txt counts as a source' 'build failed'
 rt_is 'echo "main: not proved"; exit 1'
 run_command '../a house/desk' script.txt
 refused 'a build that fails: its last lines are shown' 'main: not proved'
-rm "$house/target/bin/desk"
+rm "$house/crates/desk/out/desk"
 rt_is 'exit 0'
 run_command '../a house/desk' script.txt
 refused 'a build that leaves no program' 'build failed'

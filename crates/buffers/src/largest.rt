@@ -1,5 +1,6 @@
 // The largest table, 16 1024 16, of 66,356 words: made, and used at its last server, slot and item.
 use crate::making;
+use std::io;
 use telling::{play, show};
 
 const STEPS: [[u32; 5]; 9] = [
@@ -14,24 +15,24 @@ const STEPS: [[u32; 5]; 9] = [
     [3, 15, 255, 1, 0],
 ];
 
-fn run(t: &mut [u32]) {
+fn run(rt: &impl Print, t: &mut [u32]) -> io::Result<()> {
     let mut script = [0u32; 45];
     let mut answers = [0u32; 45];
     play::put_steps(&mut script, &STEPS);
-    show::number(steps::run(t, &script, &mut answers));
-    show::text(b"\n");
-    show::answers(b"largest table", &answers);
+    show::number(rt, steps::run(t, &script, &mut answers))?;
+    show::text(rt, b"\n")?;
+    show::answers(rt, b"largest table", &answers)
 }
 
-pub fn all() {
+pub fn all(rt: &impl Print) -> io::Result<()> {
     let mut t = [9u32; 66356];
     let code = tables::making::make(16, 1024, 16, &mut t);
     let fresh = t;
-    show::text(b"largest table, made:");
-    show::number(code);
-    making::made(&fresh);
-    show::text(b"largest table, run:");
-    run(&mut t);
-    show::text(b"largest table, what changed:");
-    show::left(&fresh, &t);
+    show::text(rt, b"largest table, made:")?;
+    show::number(rt, code)?;
+    making::made(rt, &fresh)?;
+    show::text(rt, b"largest table, run:")?;
+    run(rt, &mut t)?;
+    show::text(rt, b"largest table, what changed:")?;
+    show::left(rt, &fresh, &t)
 }

@@ -6,8 +6,10 @@ mod largest;
 mod making;
 mod runs;
 
-fn main() {
-    making::all();
-    runs::all();
-    largest::all();
+use std::io;
+
+fn main(rt: HostRuntime) -> io::Result<()> {
+    making::all(&rt)?;
+    runs::all(&rt)?;
+    largest::all(&rt)
 }

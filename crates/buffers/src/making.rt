@@ -1,4 +1,5 @@
 // Making a table, in buffers that hold nines.
+use std::io;
 use telling::show;
 
 // N, L, P and the length of the buffer.
@@ -36,49 +37,50 @@ const SIZES: [[u32; 4]; 30] = [
 ];
 
 // A table that was made: its header, and whether zeros follow it.
-pub fn made(t: &[u32]) {
-    if 4 <= t.len() {
-        show::numbers(&t[0..4]);
-        if words::all_zero(&t[4..]) {
-            show::text(b" and zeros\n");
-        } else {
-            show::text(b" NOT ZEROS\n");
-        }
+pub fn made(rt: &impl Print, t: &[u32]) -> io::Result<()> {
+    if t.len() < 4 {
+        return Ok(());
+    }
+    show::numbers(rt, &t[0..4])?;
+    if words::all_zero(&t[4..]) {
+        show::text(rt, b" and zeros\n")
+    } else {
+        show::text(rt, b" NOT ZEROS\n")
     }
 }
 
 // Makes a table in a buffer that holds the same words as another.
-fn make_in(size: [u32; 4], buffer: &mut [u32], before: &[u32]) {
+fn make_in(rt: &impl Print, size: [u32; 4], buffer: &mut [u32], before: &[u32]) -> io::Result<()> {
     let code = tables::making::make(size[0], size[1], size[2], buffer);
-    show::text(b"make, and length:");
-    show::numbers(&size);
-    show::text(b" ->");
-    show::number(code);
+    show::text(rt, b"make, and length:")?;
+    show::numbers(rt, &size)?;
+    show::text(rt, b" ->")?;
+    show::number(rt, code)?;
     if code == 0 {
-        made(buffer);
+        made(rt, buffer)
     } else {
-        show::kept(before, buffer);
+        show::kept(rt, before, buffer)
     }
 }
 
 // The same in a buffer of nines, at most 4,110 of them.
-fn make(size: [u32; 4]) {
+fn make(rt: &impl Print, size: [u32; 4]) -> io::Result<()> {
     let mut buffer = [9u32; 4110];
     let before = [9u32; 4110];
     let length = size[3] as usize;
     if length <= 4110 {
-        make_in(size, &mut buffer[0..length], &before[0..length]);
+        make_in(rt, size, &mut buffer[0..length], &before[0..length])?;
     }
+    Ok(())
 }
 
-fn make_each(sizes: &[[u32; 4]]) {
-    let mut i = 0;
-    while i < sizes.len() {
-        make(sizes[i]);
-        i += 1;
+fn make_each(rt: &impl Print, sizes: &[[u32; 4]]) -> io::Result<()> {
+    for size in sizes {
+        make(rt, *size)?;
     }
+    Ok(())
 }
 
-pub fn all() {
-    make_each(&SIZES);
+pub fn all(rt: &impl Print) -> io::Result<()> {
+    make_each(rt, &SIZES)
 }

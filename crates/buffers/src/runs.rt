@@ -1,4 +1,5 @@
 // Runs: lengths that fit and lengths that don't, and tables that aren't sound.
+use std::io;
 use telling::{play, rows, show};
 
 // Word 3 of the table, the length of the script and the length of the answer buffer.
@@ -35,18 +36,18 @@ fn run_in(t: &mut [u32], script: &[u32], m: usize, answers: &mut [u32], n: usize
 }
 
 // What was asked of a run, and what it answered.
-fn told(lengths: [u32; 3], code: u32, answers: &[u32]) {
-    show::text(b"run, with word 3 and lengths:");
-    show::numbers(&lengths);
-    show::text(b" ->");
-    show::number(code);
-    show::text(b", answers");
-    show::numbers(answers);
-    show::text(b", table");
+fn told(rt: &impl Print, lengths: [u32; 3], code: u32, answers: &[u32]) -> io::Result<()> {
+    show::text(rt, b"run, with word 3 and lengths:")?;
+    show::numbers(rt, &lengths)?;
+    show::text(rt, b" ->")?;
+    show::number(rt, code)?;
+    show::text(rt, b", answers")?;
+    show::numbers(rt, answers)?;
+    show::text(rt, b", table")
 }
 
 // A run on the table after the ten rows, with nines in the answer buffer.
-fn run(lengths: [u32; 3]) {
+fn run(rt: &impl Print, lengths: [u32; 3]) -> io::Result<()> {
     let mut t = rows::after_ten_rows();
     t[3] = lengths[0];
     let before = t;
@@ -56,33 +57,32 @@ fn run(lengths: [u32; 3]) {
     let m = lengths[1] as usize;
     let n = lengths[2] as usize;
     let code = run_in(&mut t, &script, m, &mut answers, n);
-    told(lengths, code, &answers);
-    show::left(&before, &t);
+    told(rt, lengths, code, &answers)?;
+    show::left(rt, &before, &t)
 }
 
-fn run_each(lengths: &[[u32; 3]]) {
-    let mut i = 0;
-    while i < lengths.len() {
-        run(lengths[i]);
-        i += 1;
+fn run_each(rt: &impl Print, lengths: &[[u32; 3]]) -> io::Result<()> {
+    for row in lengths {
+        run(rt, *row)?;
     }
+    Ok(())
 }
 
 // A table of no words: no steps, and then one.
-fn no_words() {
+fn no_words(rt: &impl Print) -> io::Result<()> {
     let mut t = [0u32; 0];
     let mut answers = [9u32; 5];
     let none = run_in(&mut t, &[], 0, &mut answers, 0);
     let one = run_in(&mut t, &[1, 0, 0, 0, 0], 5, &mut answers, 5);
-    show::text(b"run, a table of no words, no steps and one:");
-    show::number(none);
-    show::number(one);
-    show::text(b", answers");
-    show::numbers(&answers);
-    show::text(b"\n");
+    show::text(rt, b"run, a table of no words, no steps and one:")?;
+    show::number(rt, none)?;
+    show::number(rt, one)?;
+    show::text(rt, b", answers")?;
+    show::numbers(rt, &answers)?;
+    show::text(rt, b"\n")
 }
 
-pub fn all() {
-    run_each(&LENGTHS);
-    no_words();
+pub fn all(rt: &impl Print) -> io::Result<()> {
+    run_each(rt, &LENGTHS)?;
+    no_words(rt)
 }

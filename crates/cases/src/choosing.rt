@@ -1,4 +1,5 @@
 // Who is up to date, by the guarantees chosen, and the order of the search.
+use std::io;
 use telling::{play, show};
 
 // A session has written at server 0; it reads, and then writes, at server 1, which lacks the write.
@@ -14,27 +15,26 @@ const AFTER_A_READ: [[u32; 5]; 5] = [
 ];
 
 // The codes for a session with these guarantees.
-fn with_guarantees(guarantees: u32) {
+fn with_guarantees(rt: &impl Print, guarantees: u32) -> io::Result<()> {
     let mut t = [0u32; 54];
-    show::text(b"guarantees");
-    show::number(guarantees);
+    show::text(rt, b"guarantees")?;
+    show::number(rt, guarantees)?;
     tables::making::make(2, 4, 2, &mut t);
     steps::step(&mut t, 1, 0, guarantees, 0, 0);
-    show::text(b", after a write:");
-    play::codes(&mut t, &AFTER_A_WRITE);
+    show::text(rt, b", after a write:")?;
+    play::codes(rt, &mut t, &AFTER_A_WRITE)?;
     tables::making::make(2, 4, 2, &mut t);
     steps::step(&mut t, 1, 0, guarantees, 0, 0);
-    show::text(b", after a read:");
-    play::codes(&mut t, &AFTER_A_READ);
-    show::text(b"\n");
+    show::text(rt, b", after a read:")?;
+    play::codes(rt, &mut t, &AFTER_A_READ)?;
+    show::text(rt, b"\n")
 }
 
-fn all_guarantees() {
-    let mut guarantees = 0;
-    while guarantees < 16 {
-        with_guarantees(guarantees);
-        guarantees += 1;
+fn all_guarantees(rt: &impl Print) -> io::Result<()> {
+    for guarantees in 0..16 {
+        with_guarantees(rt, guarantees)?;
     }
+    Ok(())
 }
 
 // Three servers, two places each, and a session with RYW.
@@ -58,14 +58,14 @@ const SEARCH: [[u32; 5]; 17] = [
     [4, 0, 7, 90, 7], // from 2: its log is full
 ];
 
-fn search() {
+fn search(rt: &impl Print) -> io::Result<()> {
     let mut t = [0u32; 56];
     tables::making::make(3, 2, 2, &mut t);
-    play::play(b"search", &mut t, &SEARCH);
-    play::play(b"search, all full", &mut t, &[[4, 0, 7, 99, 7]]);
+    play::play(rt, b"search", &mut t, &SEARCH)?;
+    play::play(rt, b"search, all full", &mut t, &[[4, 0, 7, 99, 7]])
 }
 
-pub fn all() {
-    all_guarantees();
-    search();
+pub fn all(rt: &impl Print) -> io::Result<()> {
+    all_guarantees(rt)?;
+    search(rt)
 }

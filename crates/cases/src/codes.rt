@@ -1,5 +1,6 @@
 // Of several faults the smallest code wins: each refusal of each kind of step, with faults of greater codes beside it. In the table
 // slot 0 is open, with RYW, and slot 1 is closed; server 1 is behind, and server 0 has one free place.
+use std::io;
 use telling::{play, rows};
 
 const OPEN: [[u32; 5]; 7] = [
@@ -94,40 +95,40 @@ const UNSOUND: [[u32; 5]; 16] = [
     [6, 0, 0, 0, 0],
 ];
 
-fn open_and_close() {
+fn open_and_close(rt: &impl Print) -> io::Result<()> {
     let mut t = rows::after_ten_rows();
-    play::play(b"open", &mut t, &OPEN);
-    play::play(b"close", &mut t, &CLOSE);
+    play::play(rt, b"open", &mut t, &OPEN)?;
+    play::play(rt, b"close", &mut t, &CLOSE)
 }
 
-fn read() {
+fn read(rt: &impl Print) -> io::Result<()> {
     let mut t = rows::after_ten_rows();
-    play::play(b"read", &mut t, &READ);
+    play::play(rt, b"read", &mut t, &READ)
 }
 
-fn write() {
+fn write(rt: &impl Print) -> io::Result<()> {
     let mut t = rows::after_ten_rows();
-    play::play(b"write", &mut t, &WRITE);
+    play::play(rt, b"write", &mut t, &WRITE)
 }
 
-fn exchange() {
+fn exchange(rt: &impl Print) -> io::Result<()> {
     let mut t = rows::after_ten_rows();
-    play::play(b"exchange", &mut t, &EXCHANGE);
-    play::play(b"no kind", &mut t, &NO_KIND);
+    play::play(rt, b"exchange", &mut t, &EXCHANGE)?;
+    play::play(rt, b"no kind", &mut t, &NO_KIND)
 }
 
 // Server 0's log is full, and word 3 of the header is not 0.
-fn unsound() {
+fn unsound(rt: &impl Print) -> io::Result<()> {
     let mut t = rows::after_ten_rows();
-    play::play(b"unsound, before", &mut t, &[[4, 0, 7, 80, 1]]);
+    play::play(rt, b"unsound, before", &mut t, &[[4, 0, 7, 80, 1]])?;
     t[3] = 1;
-    play::play(b"unsound", &mut t, &UNSOUND);
+    play::play(rt, b"unsound", &mut t, &UNSOUND)
 }
 
-pub fn all() {
-    open_and_close();
-    read();
-    write();
-    exchange();
-    unsound();
+pub fn all(rt: &impl Print) -> io::Result<()> {
+    open_and_close(rt)?;
+    read(rt)?;
+    write(rt)?;
+    exchange(rt)?;
+    unsound(rt)
 }

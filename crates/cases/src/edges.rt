@@ -1,4 +1,5 @@
 // The edges that 01 names, and the ends of each range.
+use std::io;
 use telling::play;
 
 // L is 1: a second write at the same server finds the log full, and so does an exchange, which is accepted.
@@ -73,25 +74,25 @@ const ENDS: [[u32; 5]; 18] = [
     [5, 0, 0, 9, 0], // to itself
 ];
 
-fn one_place_each() {
+fn one_place_each(rt: &impl Print) -> io::Result<()> {
     let mut t = [0u32; 30];
     tables::making::make(2, 1, 2, &mut t);
-    play::play(b"one place", &mut t, &ONE_PLACE);
+    play::play(rt, b"one place", &mut t, &ONE_PLACE)?;
     tables::making::make(2, 1, 2, &mut t);
-    play::play(b"behind and full", &mut t, &APART);
+    play::play(rt, b"behind and full", &mut t, &APART)?;
     tables::making::make(2, 1, 2, &mut t);
-    play::play(b"full or behind", &mut t, &FULL_OR_BEHIND);
+    play::play(rt, b"full or behind", &mut t, &FULL_OR_BEHIND)
 }
 
-fn four_places_each() {
+fn four_places_each(rt: &impl Print) -> io::Result<()> {
     let mut t = [0u32; 54];
     tables::making::make(2, 4, 2, &mut t);
-    play::play(b"reopened slot", &mut t, &REOPENED);
+    play::play(rt, b"reopened slot", &mut t, &REOPENED)?;
     tables::making::make(2, 4, 2, &mut t);
-    play::play(b"ends of ranges", &mut t, &ENDS);
+    play::play(rt, b"ends of ranges", &mut t, &ENDS)
 }
 
-pub fn all() {
-    one_place_each();
-    four_places_each();
+pub fn all(rt: &impl Print) -> io::Result<()> {
+    one_place_each(rt)?;
+    four_places_each(rt)
 }

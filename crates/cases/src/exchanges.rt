@@ -1,4 +1,5 @@
 // Exchanges: which writes go over, how many, and where they go.
+use std::io;
 use telling::play;
 
 // Server 0 has written twice and server 1 once, apart.
@@ -35,28 +36,28 @@ const MOST_2: [[u32; 5]; 6] = [
     [5, 0, 1, 2, 0], // one lacks
 ];
 
-fn room() {
+fn room(rt: &impl Print) -> io::Result<()> {
     let mut t = [0u32; 54];
     tables::making::make(2, 4, 2, &mut t);
-    play::play(b"exchange, before", &mut t, &APART);
-    play::play(b"exchange, room", &mut t, &ROOM);
+    play::play(rt, b"exchange, before", &mut t, &APART)?;
+    play::play(rt, b"exchange, room", &mut t, &ROOM)
 }
 
-fn no_room() {
+fn no_room(rt: &impl Print) -> io::Result<()> {
     let mut t = [0u32; 38];
     tables::making::make(2, 2, 2, &mut t);
-    play::play(b"exchange, before", &mut t, &APART);
-    play::play(b"exchange, no room", &mut t, &NO_ROOM);
+    play::play(rt, b"exchange, before", &mut t, &APART)?;
+    play::play(rt, b"exchange, no room", &mut t, &NO_ROOM)
 }
 
-fn most_2() {
+fn most_2(rt: &impl Print) -> io::Result<()> {
     let mut t = [0u32; 54];
     tables::making::make(2, 4, 2, &mut t);
-    play::play(b"exchange, most 2", &mut t, &MOST_2);
+    play::play(rt, b"exchange, most 2", &mut t, &MOST_2)
 }
 
-pub fn all() {
-    room();
-    no_room();
-    most_2();
+pub fn all(rt: &impl Print) -> io::Result<()> {
+    room(rt)?;
+    no_room(rt)?;
+    most_2(rt)
 }

@@ -8,10 +8,12 @@ mod edges;
 mod exchanges;
 mod rows;
 
-fn main() {
-    rows::all();
-    edges::all();
-    choosing::all();
-    exchanges::all();
-    codes::all();
+use std::io;
+
+fn main(rt: HostRuntime) -> io::Result<()> {
+    rows::all(&rt)?;
+    edges::all(&rt)?;
+    choosing::all(&rt)?;
+    exchanges::all(&rt)?;
+    codes::all(&rt)
 }

@@ -2,56 +2,77 @@
 // `script::reply`; this adds the reading and the writing. specs/Served.antt says what can be promised of these.
 #![tactic(auto)]
 
-ghost use Rattle.desk.specs.Served.{ServePromise, WorkPromise};
+ghost use Rattle.std.specs.Prelude.{◌≡◌, IfSome, OnOk, length, take};
+ghost use Rattle.std.specs.Io.KnownBytes.{Appends};
+ghost use Rattle.desk.specs.Served.{ServePromise, WorkPromise, Answers};
 
-use libc::{STDERR_FILENO, STDIN_FILENO, STDOUT_FILENO};
 use script::Told;
+use std::io;
+use std::io::{Read, Write};
 
-// How many bytes were read, what `reply` told of them, and whether all bytes of the reply were taken.
-#[derive(Clone, Copy)]
+mod reading;
+
+// How many bytes were read, what `reply` told of them, whether a read failed, and whether all bytes of the reply were taken.
+#[derive(Drop)]
 struct Served {
     read: usize,
     told: Told,
-    written: bool,
+    ended: io::Result<()>,
+    written: io::Result<()>,
 }
 
-// Reads until the text is full or the input ends, and writes the reply.
-fn serve(
+// Reads until the text is full or the input ends, and writes the reply. A read that fails ends the input.
+fn serve<R: Read, W: Write>(
+    input: &mut R,
+    output: &mut W,
     text: &mut [u8],
     table: &mut [u32],
     steps: &mut [u32],
     answers: &mut [u32],
     out: &mut [u8],
 ) -> Served
-    ensures { ServePromise table.old steps.old answers.old out.old result.read result.told.code result.told.count text.new table.new steps.new answers.new out.new }
+    ensures served { ServePromise table.old steps.old answers.old out.old result.read result.told.code result.told.count text.new table.new steps.new answers.new out.new }
+    ensures input { OnOk result.ended (IfSome (R.remaining input.old) (λ xs. take result.read text.new ≡ take (length text.new) xs)) }
+    ensures output { OnOk result.written (Appends (W.contents output.old) (W.contents output.new) (take result.told.count out.new)) }
 {
-    let read = io::read_full(STDIN_FILENO, text);
+    let (read, ended) = reading::fill(input, text);
     let told = script::reply(&text[..read], table, steps, answers, out);
     let count = told.count;
-    let written = io::write_all(STDOUT_FILENO, &out[..count]);
+    let written = output.write_all(&out[..count]);
     Served {
         read,
         told,
+        ended,
         written,
     }
 }
 
 // Serves in arrays that have room for every script. One byte of text more than the limit is enough to see that a text is too long.
-fn work() -> Served
-    ensures { WorkPromise result.read result.told.code result.told.count }
+fn work<R: Read, W: Write>(input: &mut R, output: &mut W) -> Served
+    ensures worked { WorkPromise result.read result.told.code result.told.count }
+    ensures answered { OnOk result.ended (OnOk result.written (IfSome (R.remaining input.old) (λ xs. Answers xs (W.contents output.old) (W.contents output.new)))) }
 {
     let mut text = [0u8; script::MOST_BYTES + 1];
     let mut table = [0u32; script::TABLE_WORDS];
     let mut steps = [0u32; script::STEP_WORDS];
     let mut answers = [0u32; script::STEP_WORDS];
     let mut out = [0u8; script::OUT_BYTES];
-    serve(&mut text, &mut table, &mut steps, &mut answers, &mut out)
+    serve(
+        input,
+        output,
+        &mut text,
+        &mut table,
+        &mut steps,
+        &mut answers,
+        &mut out,
+    )
 }
 
-// A reply that can't be written is told on standard error.
-fn main() {
-    let served = work();
-    if !served.written {
-        io::write_all(STDERR_FILENO, b"desk: the reply could not be written\n");
+// A reply that can't be written is told on standard error. A read that failed ends the program as an error, behind the reply to what was read.
+fn main(rt: HostRuntime) -> io::Result<()> {
+    let Served { ended, written, .. } = work(&mut rt.stdin(), &mut rt.stdout());
+    if written.is_err() {
+        eprintln!(rt; "desk: the reply could not be written")?;
     }
+    ended
 }

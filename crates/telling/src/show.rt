@@ -2,52 +2,52 @@
 ghost use Rattle.std.specs.Prelude.{true, false, ◌≡◌, ◌+◌, ◌≤◌, length};
 
 use kinds::Answer;
+use std::io;
 
-pub fn text(bytes: &[u8]) {
-    io::write_all(1, bytes);
+pub fn text(rt: &impl Print, bytes: &[u8]) -> io::Result<()> {
+    rt.write_all(bytes)
 }
 
 // A number, after a space.
-pub fn number(x: u32) {
-    text(b" ");
-    io::print_decimal(1, x as u64);
+pub fn number(rt: &impl Print, x: u32) -> io::Result<()> {
+    print!(rt; " {x}")
 }
 
 // Numbers, each after a space.
-pub fn numbers(all: &[u32]) {
-    let mut i = 0;
-    while i < all.len() {
-        number(all[i]);
-        i += 1;
+pub fn numbers(rt: &impl Print, all: &[u32]) -> io::Result<()> {
+    for x in all {
+        number(rt, *x)?;
     }
+    Ok(())
 }
 
 // The answer that begins at a place, on a line of its own.
-fn answer_at(name: &[u8], all: &[u32], at: usize)
+fn answer_at(rt: &impl Print, name: &[u8], all: &[u32], at: usize) -> io::Result<()>
     requires { at + 5 ≤ length all.now }
 {
-    text(name);
-    text(b", answer:");
-    numbers(&all[at..at + 5]);
-    text(b"\n");
+    text(rt, name)?;
+    text(rt, b", answer:")?;
+    numbers(rt, &all[at..at + 5])?;
+    text(rt, b"\n")
 }
 
 // Answers of five words, each on a line of its own.
-pub fn answers(name: &[u8], all: &[u32]) {
+pub fn answers(rt: &impl Print, name: &[u8], all: &[u32]) -> io::Result<()> {
     let mut at = 0;
     while 5 <= all.len() - at {
-        answer_at(name, all, at);
+        answer_at(rt, name, all, at)?;
         at += 5;
     }
+    Ok(())
 }
 
 // An answer's five words.
-pub fn answer(r: Answer) {
-    number(r.code);
-    number(r.server);
-    number(r.origin);
-    number(r.clock);
-    number(r.value);
+pub fn answer(rt: &impl Print, r: Answer) -> io::Result<()> {
+    number(rt, r.code)?;
+    number(rt, r.server)?;
+    number(rt, r.origin)?;
+    number(rt, r.clock)?;
+    number(rt, r.value)
 }
 
 // The same words? Whether a table was altered is told by this, so it is promised.
@@ -69,48 +69,45 @@ fn same(a: &[u32], b: &[u32]) -> bool
 }
 
 // What a refusal did: was every word kept? This ends the line.
-pub fn kept(before: &[u32], after: &[u32]) {
+pub fn kept(rt: &impl Print, before: &[u32], after: &[u32]) -> io::Result<()> {
     if same(before, after) {
-        text(b" kept\n");
+        text(rt, b" kept\n")
     } else {
-        text(b" ALTERED\n");
+        text(rt, b" ALTERED\n")
     }
 }
 
 // A word and its place, as PLACE=WORD.
-pub fn word_at(i: usize, word: u32) {
-    text(b" ");
-    io::print_decimal(1, i as u64);
-    text(b"=");
-    io::print_decimal(1, word as u64);
+pub fn word_at(rt: &impl Print, i: usize, word: u32) -> io::Result<()> {
+    print!(rt; " {i}={word}")
 }
 
 // The word at a place, if it is not what it was.
-fn change(before: &[u32], after: &[u32], i: usize) {
+fn change(rt: &impl Print, before: &[u32], after: &[u32], i: usize) -> io::Result<()> {
     if i < before.len() {
         if i < after.len() {
             if before[i] != after[i] {
-                word_at(i, after[i]);
+                return word_at(rt, i, after[i]);
             }
         }
     }
+    Ok(())
 }
 
 // The words that are not what they were.
-fn changes(before: &[u32], after: &[u32]) {
-    let mut i = 0;
-    while i < after.len() {
-        change(before, after, i);
-        i += 1;
+fn changes(rt: &impl Print, before: &[u32], after: &[u32]) -> io::Result<()> {
+    for i in 0..after.len() {
+        change(rt, before, after, i)?;
     }
+    Ok(())
 }
 
 // What an accepted call did: it kept every word, or it left these. This ends the line.
-pub fn left(before: &[u32], after: &[u32]) {
+pub fn left(rt: &impl Print, before: &[u32], after: &[u32]) -> io::Result<()> {
     if same(before, after) {
-        text(b" kept\n");
+        text(rt, b" kept\n")
     } else {
-        changes(before, after);
-        text(b"\n");
+        changes(rt, before, after)?;
+        text(rt, b"\n")
     }
 }

@@ -11,7 +11,7 @@ usage: outside [OPTIONS] [-- PROGRAM WORDS..]            tries everything; the l
        outside [OPTIONS] try FILE [-- PROGRAM WORDS..]   says what each judge says of one case (.txt or .words)
        outside [OPTIONS] reply                           answers a text on standard input as the desk does
        outside benchmark                                 times the library's calls (tools/benchmark.sh)
-PROGRAM, run with the words behind it, is held to the rules; the usual one is target/bin/desk
+PROGRAM, run with the words behind it, is held to the rules; the usual one is crates/desk/out/desk
 BRIDGE is the program of tests/client/bridge.c; the usual one is target/client/bridge
 options: --kept FOLDER    the cases that are tried in every run, and where a failing one goes (tests/regressions)
          --seed NUMBER    of the random cases
@@ -48,7 +48,7 @@ impl Options {
     pub fn given(words: impl Iterator<Item = String>) -> Result<Options, String> {
         let mut options = Options {
             order: Order::Suite,
-            program: Program { file: "target/bin/desk".to_string(), words: Vec::new() },
+            program: Program { file: "crates/desk/out/desk".to_string(), words: Vec::new() },
             kept: PathBuf::from("tests/regressions"),
             seed: 19_940_928,
             scripts: 3_200,

@@ -8,7 +8,7 @@ use std::process::{Child, Command, Stdio};
 pub struct Program {
     /// Its file.
     pub file: String,
-    /// The words behind it: where `file` is an emulator, the program that it runs.
+    /// The words behind it.
     pub words: Vec<String>,
 }
 

@@ -1,7 +1,7 @@
 -- The least writes of a set are the first of the log that has the set's members. Assumes nothing.
 use Rattle.std.specs.Prelude.{ℕ, zero, suc, true, false, not, List, [], ◌∷◌, ◌≡◌, refl, take}
 use Rattle.std.proofs.Common.{⊎_elim, sym, ◌∙◌, ap, ap₂, subst}
-use Rattle.words.specs.Lists.{In, here, there, keep, SameMembers}
+use Rattle.words.specs.Lists.{In, here, there, SameMembers}
 use Rattle.words.specs.ListLaws.{in-nil, in-cons, in-keep, keep-passes, keep-in}
 use Rattle.words.specs.TestLaws.{true-not-false, not-true-false, cond-elim}
 use Rattle.words.specs.CaseLaws.{each}

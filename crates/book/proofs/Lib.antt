@@ -4,7 +4,7 @@ pub mod Guarantees
 pub mod LeastLaws
 pub mod MatchingKept
 pub mod MatchingLaws
-pub mod Met
+pub mod IsMet
 pub mod Moments
 pub mod NewestLaws
 pub mod Opening

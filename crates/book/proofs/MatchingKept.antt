@@ -1,6 +1,6 @@
 -- What keeps a book matching a state: a slot set in both, writes that arrive in both, and vectors that go on standing for sets.
 -- Assumes nothing.
-use Rattle.std.specs.Prelude.{ℕ, ◌+◌, ◌≤◌, List, [], ◌∷◌, ◌++◌, ◌⊎◌, ◌≡◌, refl, eqb, length}
+use Rattle.std.specs.Prelude.{ℕ, ◌≤◌, List, [], ◌∷◌, ◌++◌, ◌≡◌, refl, eqb, length}
 use Rattle.std.proofs.Common.{inl, inr, ⊎_elim, sym, ap, subst, arith, length-append}
 use Rattle.words.specs.TestLaws.{cond_both}
 use Rattle.words.specs.Lists.{In, here, there, upd, SameMembers}

@@ -51,15 +51,15 @@ module _ {z : Size} {s : State} {t : List ℕ} (means : Means z s t) where
 pub means-after : {z : Size} {s : State} {t : List ℕ} → Means z s t → (xs : List Step) → Means z (state_after z s xs) (after t xs)
 unfolding state_after after walk onward
 means-after means [] = means
-means-after means (x ∷ xs) = means-after (means-next means x) xs
+means-after {z} {s} means (x ∷ xs) = means-after {s = (rule z s x).state} (means-next means x) xs
 
 -- No server ever loses a write.
 pub kept-after : {z : Size} {s : State} {t : List ℕ} → Means z s t → (xs : List Step) (i : ℕ) (w : Write) → In w (s.log i)
     → In w ((state_after z s xs).log i)
 unfolding state_after
 kept-after means [] i w m = m
-kept-after {z} means (x ∷ xs) i w m =
-    kept-after (means-next means x) xs i w (effect-keeps means.state (asked-in_range z x) (step-effect means x) i w m)
+kept-after {z} {s} means (x ∷ xs) i w m =
+    kept-after {s = (rule z s x).state} (means-next means x) xs i w (effect-keeps means.state (asked-in_range z x) (step-effect means x) i w m)
 
 -- A session that lasts is open, and forgets nothing.
 pub still_after : {z : Size} {s : State} {t : List ℕ} → Means z s t → (k : ℕ) (q : Session) → s.slot k ≡ opened q → (xs : List Step) → Lasts k t xs
@@ -72,7 +72,7 @@ still_after {z} {s} {t} means k q e (x ∷ xs) lasts =
     let c = asked-close z x k o in
     lasts.0 (record { kind = c.0; slot = c.1; accepted = ap (λ (r : Answer). r.code) (step-answer means x) ∙ d })) in
     let end : Still (state_after z (rule z s x).state xs) k next.session =
-    still_after (means-next means x) k next.session next.is xs lasts.1 in
+    still_after {s = (rule z s x).state} (means-next means x) k next.session next.is xs lasts.1 in
     record { session = end.session; is = end.is; later = later_trans next.later end.later }
 
 -- What precedes a write precedes it ever after.
@@ -80,5 +80,5 @@ pub precedes-after : {z : Size} {s : State} {t : List ℕ} → Means z s t → (
     → Precedes (state_after z s xs) w₁ w₂
 unfolding state_after
 precedes-after means [] w₁ w₂ p = p
-precedes-after {z} means (x ∷ xs) w₁ w₂ p =
-    precedes-after (means-next means x) xs w₁ w₂ (effect-precedes means.state w₁ w₂ p (asked-in_range z x) (step-effect means x))
+precedes-after {z} {s} means (x ∷ xs) w₁ w₂ p =
+    precedes-after {s = (rule z s x).state} (means-next means x) xs w₁ w₂ (effect-precedes means.state w₁ w₂ p (asked-in_range z x) (step-effect means x))

@@ -1,6 +1,6 @@
 -- What a session chose is what its opening asked for, from the accepted open of its slot to the accepted close. Assumes nothing.
 use Rattle.std.specs.Prelude.{ℕ, suc, ◌<◌, Bool, true, List, [], ◌∷◌, ◌++◌, ◌↔◌, ◌≡◌, get_or}
-use Rattle.std.proofs.Common.{⊎_elim, sym, ◌∙◌}
+use Rattle.std.proofs.Common.{⊎_elim, ◌∙◌}
 use Rattle.std.proofs.Math.Path.{ap, subst}
 use Rattle.words.specs.CaseLaws.{lt-or-le}
 use Rattle.tables.specs.Size.{Size}

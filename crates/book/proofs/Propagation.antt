@@ -1,6 +1,6 @@
 -- A write that a server accepts follows, at every server and for ever, each write that its server held: C1 orders it behind, and C2 lets
 -- it travel no faster. Assumes nothing.
-use Rattle.std.specs.Prelude.{ℕ, ◌<◌, true, ◌⊎◌, ◌≡◌, refl, eqb}
+use Rattle.std.specs.Prelude.{ℕ, ◌<◌, ◌⊎◌, ◌≡◌, refl, eqb}
 use mathlib.Core.List.{List, [], ◌∷◌, ◌++◌}
 use Rattle.std.proofs.Common.{⊎_elim, inl, inr, sym, ◌∙◌, subst₂, arith, eqb-true}
 use Rattle.std.proofs.Math.Path.{subst, ap}
@@ -8,7 +8,7 @@ use Rattle.std.proofs.lemmas.Bool.{eqb-false}
 use Rattle.words.specs.TestLaws.{either}
 use Rattle.words.specs.Lists.{In, here, upd}
 use Rattle.words.specs.ListLaws.{in_one, in_append_left, in_append_right, in-append-cases, upd-elim}
-use Rattle.logs.specs.Write.{Write, before}
+use Rattle.logs.specs.Write.{Write}
 use Rattle.logs.specs.Log.{insert_all}
 use Rattle.logs.proofs.LogLaws.{in-insert_all, insert_all-old}
 use Rattle.tables.specs.Size.{Size}

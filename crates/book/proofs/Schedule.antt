@@ -24,7 +24,7 @@ unfolding walk onward book_answers rule
 walk-book means b m [] = refl
 walk-book {z} {s} means b m (x ∷ xs) =
     let both = book-step z s b means.state m (asked z x) in
-    ap₂ {C = List Answer} (λ r rs. r ∷ rs) (step-answer means x ∙ both.0) (walk-book (means-next means x) (book_step z b (asked z x)).book both.1 xs)
+    ap₂ {C = List Answer} (λ r rs. r ∷ rs) (step-answer means x ∙ both.0) (walk-book {s = (rule z s x).state} (means-next means x) (book_step z b (asked z x)).book both.1 xs)
 
 -- For every size within the limits and every schedule of steps, the answers over a fresh table are the book's.
 pub schedule-book : (z : Size) → within z ≡ true → (xs : List Step) → (walk (fresh z) xs).answers ≡ book_answers z blank xs

@@ -15,8 +15,8 @@ use Rattle.tables.specs.State.{Session, Slot, closed, opened, State, with_vector
 use Rattle.tables.specs.SoundState.{SoundState}
 use Rattle.rules.specs.Choice.{start_of}
 use Rattle.rules.specs.Step.{Op, bad, opens, closes, reads, writes, exchanges, refused, done}
-use Rattle.rules.specs.Rules.{Outcome, refuse, new_session, opening, closing, read_answer, after_read, read_from, reading, after_write, accepted, write_answer, write_to, writing, sent, received, exchange_answer, exchanging, obeyed}
-use Rattle.book.specs.Book.{BookSession, BookSlot, shut, live, Book, held, relevant, newest_on, latest_clock, BookOutcome, book_refuse, book_opening, book_closing, book_answer, book_read_from, book_reading, book_new_write, book_accepted, book_write_to, book_writing, book_exchanging, book_step, with_arrived, bare, book_new_session, book_after_read, book_after_write}
+use Rattle.rules.specs.Rules.{refuse, new_session, opening, closing, read_answer, after_read, read_from, reading, after_write, accepted, write_answer, write_to, writing, sent, received, exchange_answer, exchanging, obeyed}
+use Rattle.book.specs.Book.{BookSession, BookSlot, shut, live, Book, held, relevant, newest_on, latest_clock, book_refuse, book_opening, book_closing, book_answer, book_read_from, book_reading, book_new_write, book_accepted, book_write_to, book_writing, book_exchanging, book_step, with_arrived, bare, book_new_session, book_after_read, book_after_write}
 use Rattle.book.proofs.BookLaws.{latest_clock-above}
 use Rattle.book.proofs.NewestLaws.{newest_on-last_on}
 use Rattle.book.specs.Matching.{MatchingSession, MatchingSlot, Matching}

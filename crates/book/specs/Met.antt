@@ -4,7 +4,7 @@ use Rattle.std.specs.Prelude.{ℕ, List, [], ◌∷◌, true, ◌≡◌}
 use Rattle.logs.specs.Write.{Write}
 use Rattle.tables.specs.Size.{Size}
 use Rattle.tables.specs.Make.{fresh}
-use Rattle.rules.specs.Step.{Step, asked}
+use Rattle.rules.specs.Step.{Step}
 use Rattle.rules.specs.Choice.{read_your_writes, monotonic_reads, writes_follow_reads, monotonic_writes}
 use Rattle.book.specs.Terms.{Stores, DependsOn, after, Reads, Writes, Opens, Lasts, Chose}
 

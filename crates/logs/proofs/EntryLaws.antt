@@ -5,7 +5,7 @@ use mathlib.Core.List.{List, [], ◌∷◌, ◌++◌}
 use Rattle.std.proofs.Math.Path.{refl, ap, ap₂}
 use Rattle.std.proofs.Common.{sym, ◌∙◌, subst, zero-add, suc-add, take-append-drop, drop-drop}
 use native.Mathlib.Omega.{arith}
-use Rattle.words.specs.Lists.{In, here, splice}
+use Rattle.words.specs.Lists.{In, here}
 use Rattle.words.specs.ListLaws.{in_append_right}
 use Rattle.words.specs.SpliceLaws.{length-splice, take-splice, drop-splice, drop-splice-past, zeros-drop}
 use Rattle.words.specs.Tests.{zeros}

@@ -1,5 +1,5 @@
 -- What holds of the search order and of reach. Assumes nothing.
-use Rattle.std.specs.Prelude.{ℕ, zero, suc, ◌+◌, ◌-◌, ◌*◌, ◌/◌, ◌%◌, ◌^◌, ◌<◌, ◌≤◌, Bool, true, false, ◌&&◌, cond, List, [], ◌∷◌, ◌++◌, ◌≡◌, refl, length, eqb}
+use Rattle.std.specs.Prelude.{ℕ, zero, suc, ◌+◌, ◌-◌, ◌*◌, ◌/◌, ◌%◌, ◌^◌, ◌<◌, ◌≤◌, Bool, true, false, ◌&&◌, List, ◌∷◌, ◌++◌, ◌≡◌, refl, length, eqb}
 use Rattle.std.proofs.Common.{⊎_elim, sym, ◌∙◌, ap, ap₂, subst, pow-suc, div-one, one-mul, mul-add, mul-one, mul_assoc, arith}
 use Rattle.std.proofs.Math.Option.{none, some}
 use Rattle.std.proofs.Math.Nat.{pow-succ', div-div-eq-div-mul, zero-div, div-eq_of_lt}

@@ -18,7 +18,7 @@ use Rattle.rules.specs.Step.{Op, bad, opens, closes, reads, writes, exchanges, r
 use Rattle.rules.specs.Choice.{up_to_date_to_read, up_to_date_to_write, reaches, start_of, choose, around, may_write_to}
 use Rattle.rules.proofs.ChoiceLaws.{choose-some, choose-none, around-below, starts, may-current, may-room, may_write, reach-none}
 use Rattle.rules.specs.Rules.{Outcome, refuse, opening, closing, read_answer, read_from, reading, write_answer, write_to, writing, exchange_answer, exchanging, obeyed}
-use Rattle.rules.specs.Codes.{OutOfRange, out_of_range, WrongSlot, opens-open, closes-closed, reads-closed, writes-closed, ToItself, to-itself, NoneReachable, reads_none, writes-none, Behind, reads-behind, writes-behind, Full, writes-full, Given, NoRoom, ServedBy, TakenBy, Accepted, opens-closed, closes-open, reads-served, writes-taken, exchanges-apart}
+use Rattle.rules.specs.Codes.{OutOfRange, out_of_range, WrongSlot, opens-open, closes-closed, reads-closed, writes-closed, ToItself, to-itself, NoneReachable, reads_none, writes-none, Behind, reads-behind, writes-behind, Full, writes-full, Given, NoRoom, ServedBy, Accepted, opens-closed, closes-open, reads-served, writes-taken, exchanges-apart}
 
 -- Nothing found where every reachable server fails.
 choose-fails : (n start reach : ℕ) (passes : ℕ → Bool) → start < n → ((i : ℕ) → i < n → reaches reach i ≡ true → passes i ≡ false)

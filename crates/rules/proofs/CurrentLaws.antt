@@ -1,5 +1,5 @@
 -- 01, "Up to date", in plain terms: what the check of one server asks, component by component. Assumes nothing.
-use Rattle.std.specs.Prelude.{ℕ, ◌<◌, ◌≤◌, Bool, true, ◌↔◌, ◌≡◌}
+use Rattle.std.specs.Prelude.{ℕ, Bool, true, ◌↔◌, ◌≡◌}
 use Rattle.std.proofs.Common.{⊎_elim, sym, ◌∙◌}
 use Rattle.words.specs.Tests.{implies}
 use Rattle.words.specs.TestLaws.{and_left, and_right, and_both, implies-use, implies-on, implies-off, either}
@@ -8,7 +8,7 @@ use Rattle.vectors.specs.VectorLaws.{dominates-at, dominates-make}
 use Rattle.tables.specs.Size.{Size}
 use Rattle.tables.specs.State.{Session, State}
 use Rattle.rules.specs.Choice.{read_your_writes, monotonic_reads, writes_follow_reads, monotonic_writes, up_to_date, up_to_date_to_read, up_to_date_to_write}
-use Rattle.rules.specs.CurrentLaws.{AtMost, Current}
+use Rattle.rules.specs.CurrentLaws.{Current}
 
 implies-make : (a b : Bool) → (a ≡ true → b ≡ true) → implies a b ≡ true
 implies-make a b h = ⊎_elim (λ e. sym (implies-on a b e) ∙ h e) (λ e. sym (implies-off a b e)) (either a)

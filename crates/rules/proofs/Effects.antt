@@ -6,15 +6,14 @@ use Rattle.std.proofs.Math.Path.{refl}
 use Rattle.std.proofs.Common.{arith}
 use Rattle.std.proofs.lemmas.Bool.{eqb-false}
 use Rattle.words.specs.TestLaws.{cond-elim}
-use Rattle.logs.specs.Log.{last_on}
 use Rattle.tables.specs.Size.{Size}
-use Rattle.tables.specs.State.{Session, Slot, closed, opened, State, with_slot}
+use Rattle.tables.specs.State.{Session, Slot, closed, opened, State}
 use Rattle.tables.specs.SoundState.{SoundState}
 use Rattle.rules.specs.Chosen.{ChosenToRead, ChosenToWrite}
-use Rattle.rules.specs.Step.{Op, bad, opens, closes, reads, writes, exchanges, Answer, refused, done}
+use Rattle.rules.specs.Step.{Op, bad, opens, closes, reads, writes, exchanges}
 use Rattle.rules.specs.Choice.{up_to_date_to_read, start_of, may_write_to}
 use Rattle.rules.proofs.ChoiceLaws.{choose-some, starts}
-use Rattle.rules.specs.Rules.{Outcome, refuse, new_session, opening, closing, read_answer, after_read, read_from, reading, new_write, accepted, write_answer, write_to, writing, going_over, sent, received, exchange_answer, exchanging, obeyed}
+use Rattle.rules.specs.Rules.{Outcome, refuse, opening, closing, read_from, reading, write_to, writing, exchanging, obeyed}
 use Rattle.rules.specs.Effects.{Effect, was-closed, was-exchanged, was-opened, was-refused, was-written, was_read}
 
 module _ (z : Size) (s : State) (some-server : 1 ≤ z.n) (sound : SoundState z s) where

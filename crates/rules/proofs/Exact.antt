@@ -1,5 +1,5 @@
 -- Demand 2, of the step on words that the delivered calls promise. Assumes nothing.
-use Rattle.std.specs.Prelude.{ℕ, ◌<◌, ◌≤◌, ◌+◌, ◌*◌, Bool, true, false, List, ◌↔◌, ◌⊎◌, ◌≡◌, refl, get_or, length}
+use Rattle.std.specs.Prelude.{ℕ, ◌<◌, ◌+◌, ◌*◌, Bool, true, false, List, ◌↔◌, ◌⊎◌, ◌≡◌, refl, get_or, length}
 use Rattle.std.proofs.Common.{⊎_elim, inl, inr, sym, ◌∙◌, subst, arith}
 use Rattle.std.proofs.Math.Path.{ap}
 use Rattle.words.specs.Tests.{zeros}
@@ -17,11 +17,12 @@ use Rattle.rules.specs.Chosen.{Reachable}
 use Rattle.rules.specs.Step.{Step, Op, reads, writes, exchanges, reach_in_range, asked, refused, bad, opens, closes, Proper}
 use Rattle.rules.specs.StepLaws.{InRange}
 use Rattle.rules.proofs.StepLaws.{asked-in_range, asked-open, asked-closing, asked-read, asked-write, asked-exchange, bad-exactly}
-use Rattle.rules.specs.Choice.{reaches, up_to_date_to_read, up_to_date_to_write}
+use Rattle.rules.specs.Choice.{up_to_date_to_read, up_to_date_to_write}
 use Rattle.rules.proofs.ChoiceLaws.{reach-some, reach-none}
 use Rattle.rules.specs.Rules.{rule}
 use Rattle.rules.specs.Effects.{Effect}
 use Rattle.rules.specs.Codes.{Given, Accepted, NoneReachable, BehindBy, Behind, reads-behind, writes-behind, Full, OutOfRange, out_of_range, WrongSlot, ToItself}
+use Rattle.rules.specs.Exact.{NonePasses}
 use Rattle.rules.proofs.CodeLaws.{code-exactly}
 use Rattle.rules.specs.Done.{OpenDone, CloseDone, ReadDone, WriteDone, ExchangeDone}
 use Rattle.rules.proofs.DoneLaws.{state-follows, open_done, close-done, read_done, write_done, exchange-done}
@@ -93,14 +94,8 @@ full-exactly t x = given-exactly t x 7 (λ e. omega arith)
 -- The buyer's second demand: "To an otherwise proper call, "behind" is given exactly when some server is reachable and no reachable server
 -- passes the check." Proper: the table is sound, the arguments are in range, and the slot is open.
 module _ (t : List ℕ) (x : Step) (is-sound : sound t ≡ true) (k reach : ℕ) (q : Session) (is_open : (decode (size_of t) t).slot k ≡ opened q) where
-  -- Some server is reachable, and none that is passes the check.
-  abbrev pub NonePasses : (Size → State → Session → ℕ → Bool) → Type 0
-  NonePasses passes =
-      Reachable (size_of t).n reach
-      × ((i : ℕ) → i < (size_of t).n → reaches reach i ≡ true → passes (size_of t) (decode (size_of t) t) q i ≡ false)
-
   none_passes : (passes : Size → State → Session → ℕ → Bool) → reach_in_range (size_of t).n reach ≡ true
-      → BehindBy (size_of t) (decode (size_of t) t) (passes (size_of t) (decode (size_of t) t)) k reach ↔ NonePasses passes
+      → BehindBy (size_of t) (decode (size_of t) t) (passes (size_of t) (decode (size_of t) t)) k reach ↔ NonePasses t reach q passes
   none_passes passes range = (
     λ b.
         let same : b.session ≡ q = one-session b.is is_open in (
@@ -117,7 +112,7 @@ module _ (t : List ℕ) (x : Step) (is-sound : sound t ≡ true) (k reach : ℕ)
   )
 
   -- A proper read answers 6 exactly if some server is reachable and none that is passes.
-  pub read-behind-exactly : (item : ℕ) → asked (size_of t) x ≡ reads k item reach → ((step t x).answer.code ≡ 6) ↔ NonePasses up_to_date_to_read
+  pub read-behind-exactly : (item : ℕ) → asked (size_of t) x ≡ reads k item reach → ((step t x).answer.code ≡ 6) ↔ NonePasses t reach q up_to_date_to_read
   read-behind-exactly item e =
       let range = subst (InRange (size_of t)) e (asked-in_range (size_of t) x) in (
         λ c. (none_passes up_to_date_to_read range.2).0 (unread (subst (Behind (size_of t) (decode (size_of t) t)) e ((behind-exactly t x).0 c).1)),
@@ -129,7 +124,7 @@ module _ (t : List ℕ) (x : Step) (is-sound : sound t ≡ true) (k reach : ℕ)
 
   -- And a proper write.
   pub write-behind-exactly : (item value : ℕ) → asked (size_of t) x ≡ writes k item value reach
-      → ((step t x).answer.code ≡ 6) ↔ NonePasses up_to_date_to_write
+      → ((step t x).answer.code ≡ 6) ↔ NonePasses t reach q up_to_date_to_write
   write-behind-exactly item value e =
       let range = subst (InRange (size_of t)) e (asked-in_range (size_of t) x) in (
         λ c. (none_passes up_to_date_to_write range.2).0 (unwritten (subst (Behind (size_of t) (decode (size_of t) t)) e ((behind-exactly t x).0 c).1)),

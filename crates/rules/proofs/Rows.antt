@@ -1,5 +1,5 @@
 -- 01, "The desk program": the ten rows, as one statement over one list. Assumes nothing.
-use Rattle.std.specs.Prelude.{ℕ, List, [], ◌∷◌, map, true, ◌≡◌, refl, eqb, length}
+use Rattle.std.specs.Prelude.{ℕ, List, [], ◌∷◌, true, ◌≡◌, refl, eqb, length}
 use Rattle.std.proofs.Common.{sym, ◌∙◌, ap, eq-eqb}
 use Rattle.words.specs.Lists.{keep, first, or_else, blocks, row, part, upd, below}
 use Rattle.words.specs.Tests.{all, zeros, implies}
@@ -9,17 +9,17 @@ use Rattle.logs.specs.Write.{before, same}
 use Rattle.logs.specs.Log.{insert, insert_all, last_on, lacking, follow}
 use Rattle.logs.specs.LogTests.{in_range, goes_on, ordered, of_origin, up_to, greatest_clock, greatest_of, same_all, agrees}
 use Rattle.logs.specs.Places.{spelled, places, entry, entries}
-use Rattle.tables.specs.Size.{Size, within}
+use Rattle.tables.specs.Size.{within}
 use Rattle.tables.specs.State.{with_vector, with_log, with_slot}
 use Rattle.tables.specs.Layout.{header, vector_at, count_at, log_at, slot_width, slot_at, size, head_words, slot_words, encode, size_of, log_part, slot_part, session_of, slot_of, decode}
 use Rattle.tables.specs.Sound.{rule_a, rule_b, rule_c, rule_d, rule_e, slot_sound, rule_f, sound_at, sound}
 use Rattle.tables.specs.Make.{fresh}
-use Rattle.rules.specs.Step.{Step, step_words, Answer, answer_words, reach_in_range, open_in_range, close_in_range, read_in_range, write_in_range, exchange_in_range, if_in_range, of_kind, asked, refused, done}
+use Rattle.rules.specs.Step.{step_words, answer_words, reach_in_range, open_in_range, close_in_range, read_in_range, write_in_range, exchange_in_range, if_in_range, of_kind, asked, refused, done}
 use Rattle.rules.specs.Choice.{read_your_writes, monotonic_reads, writes_follow_reads, monotonic_writes, up_to_date_to_read, up_to_date_to_write, reaches, start_of, next, onwards, around, choose, has_room, up_to_date, may_write_to}
 use Rattle.rules.specs.Rules.{refuse, new_session, opening, closing, read_answer, after_read, read_from, reading, new_write, after_write, accepted, write_answer, write_to, writing, going_over, sent, received, exchange_answer, exchanging, obeyed, rule}
 use Rattle.rules.proofs.RunLaws.{run_fits, steps_of-step_words}
 use Rattle.rules.specs.Calls.{lengths_fit, run, written, step, onward, walk}
-use Rattle.rules.specs.Rows.{Row, answered-words, asked-words, asks, gets, line, rows, small, ten-answers, ten-steps}
+use Rattle.rules.specs.Rows.{answered-words, asked-words, rows, small, ten-answers, ten-steps}
 
 -- The rules give each row its answer.
 pub ten-rows : (walk (fresh small) ten-steps).answers ≡ ten-answers

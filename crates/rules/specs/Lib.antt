@@ -12,3 +12,4 @@ pub mod CallLaws
 pub mod Done
 pub mod Acceptance
 pub mod Rows
+pub mod Exact

@@ -1,6 +1,6 @@
 -- A state and its words are each other's: a state's words mean that state, and a table's words are those of the state that they
 -- mean. Assumes nothing.
-use Rattle.std.specs.Prelude.{ℕ, ◌+◌, ◌*◌, ◌<◌, ◌≤◌, true, ◌≡◌, leb, length}
+use Rattle.std.specs.Prelude.{ℕ, ◌+◌, ◌*◌, ◌<◌, true, ◌≡◌, leb, length}
 use mathlib.Core.List.{List, [], ◌∷◌, ◌++◌}
 use Rattle.std.proofs.Common.{inl, inr, ◌∙◌, arith, leb-true}
 use Rattle.std.proofs.Math.Path.{sym, ap, ap₂, fun_ext}

@@ -1,11 +1,11 @@
 -- What holds of a state's words: how many there are, and what stands at each offset. Assumes nothing.
-use Rattle.std.specs.Prelude.{ℕ, ◌+◌, ◌*◌, ◌<◌, ◌≤◌, ◌≡◌, get_or}
+use Rattle.std.specs.Prelude.{ℕ, ◌+◌, ◌*◌, ◌<◌, ◌≡◌, get_or}
 use mathlib.Core.List.{List, [], ◌++◌, append-nil, append_assoc}
 use Rattle.std.proofs.Math.Path.{refl, sym, ap, ap₂}
 use Rattle.std.proofs.Common.{◌∙◌, arith}
 use Rattle.std.proofs.Math.ListN.{length, length-append, get_or-append}
 use Rattle.std.proofs.Math.Seq.{get_or_at}
-use Rattle.words.specs.Lists.{row, blocks, part}
+use Rattle.words.specs.Lists.{row, part}
 use Rattle.words.specs.BlockLaws.{part-block, get_or-block}
 use Rattle.words.specs.RowLaws.{Wide, length-row, get_or-row, length-blocks}
 use Rattle.logs.specs.Places.{width, places}

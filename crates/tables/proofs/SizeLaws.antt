@@ -1,5 +1,5 @@
 -- The limits as plain bounds. Assumes nothing.
-use Rattle.std.specs.Prelude.{◌≤◌, true, false, ◌↔◌, ◌≡◌}
+use Rattle.std.specs.Prelude.{true, false, ◌↔◌, ◌≡◌}
 use Rattle.std.proofs.Common.{leb-true, le-leb}
 use Rattle.words.specs.TestLaws.{and_left, and_right, and_both, not-true-false}
 use Rattle.tables.specs.Size.{Size, within}

@@ -1,5 +1,5 @@
 -- What holds of a state's words: how many there are, and what stands at each offset. Assumes nothing.
-use Rattle.std.specs.Prelude.{ℕ, ◌+◌, ◌<◌, ◌≤◌}
+use Rattle.std.specs.Prelude.{ℕ, ◌<◌, ◌≤◌}
 use mathlib.Core.List.{List, ◌++◌}
 use Rattle.std.proofs.Math.ListN.{length}
 use Rattle.words.specs.Lists.{blocks}

@@ -1,7 +1,6 @@
 use borrow.Author.Rules.{rules}
-use Prim.Native.Nat.{◌≤◌, ◌-◌, ◌+◌}
 use Rattle.checks.specs.WalkLaws.{agree-start, agree-end, agree-past, agree-lacks, agree_same, agree-differs}
-use mathlib.Core.Path.{◌≡◌, sym, ◌∙◌}
+use mathlib.Core.Path.{sym, ◌∙◌}
 use Rattle.checks.proofs.agrees.Goals as goal
 
 pub loop-h-init : goal.loop-h-init
@@ -14,13 +13,12 @@ pub returns-then-e-count : goal.returns-then-e-count
 returns-then-e-count c = sym (agree-lacks _ c.next_of-e.ensures c.next_of-h.ensures c.loop-h.invariant.2 (search rules) c.entry_at-at_home.ensures (search rules) c.if-e-count.true)
 
 pub loop-h-preserved-then-same : goal.loop-h-preserved-then-same
-loop-h-preserved-then-same c =
-    (
-      search rules,
-      search rules,
-      agree_same _ c.next_of-e.ensures c.next_of-h.ensures c.loop-h.invariant.2 (search rules) c.entry_at-at_home.ensures (search rules) (search rules)
-          c.entry_at.ensures (sym c.same.ensures ∙ c.if-same.true),
-    )
+loop-h-preserved-then-same c = (
+  search rules,
+  search rules,
+  agree_same _ c.next_of-e.ensures c.next_of-h.ensures c.loop-h.invariant.2 (search rules) c.entry_at-at_home.ensures (search rules) (search rules)
+      c.entry_at.ensures (sym c.same.ensures ∙ c.if-same.true),
+)
 
 pub returns-else-same : goal.returns-else-same
 returns-else-same c =

@@ -3,7 +3,7 @@ use Prim.Native.Nat.{◌≤◌, ◌-◌, ◌+◌}
 use Rattle.logs.specs.LogTests.{agrees}
 use Rattle.logs.specs.Places.{entries}
 use Rattle.checks.specs.Walk.{writes_from}
-use mathlib.Core.Path.{◌≡◌, ◌∙◌}
+use mathlib.Core.Path.{◌≡◌}
 use Rattle.checks.proofs.agrees.Given as goal
 
 abbrev pub invariant-loop-h : goal.invariant-loop-h

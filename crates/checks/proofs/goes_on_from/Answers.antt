@@ -1,7 +1,6 @@
 use borrow.Author.Rules.{rules}
-use Prim.Native.Nat.{◌-◌}
 use Rattle.checks.specs.WalkLaws.{goes-next, goes-fails, goes_end}
-use mathlib.Core.Path.{◌≡◌, refl, sym, ◌∙◌}
+use mathlib.Core.Path.{refl, sym, ◌∙◌}
 use Rattle.checks.proofs.goes_on_from.Goals as goal
 
 pub loop-e-init : goal.loop-e-init

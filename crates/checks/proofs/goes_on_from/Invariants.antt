@@ -3,7 +3,7 @@ use Prim.Native.Nat.{◌-◌}
 use Rattle.logs.specs.LogTests.{goes_on}
 use Rattle.logs.specs.Stored.{write_of}
 use Rattle.checks.specs.Walk.{writes_from}
-use mathlib.Core.Path.{◌≡◌, ◌∙◌}
+use mathlib.Core.Path.{◌≡◌}
 use Rattle.checks.proofs.goes_on_from.Given as goal
 
 abbrev pub invariant-loop-e : goal.invariant-loop-e

@@ -1,7 +1,6 @@
 use borrow.Author.Rules.{rules}
-use Prim.Native.Nat.{◌≤◌, ◌-◌}
 use Rattle.checks.specs.WalkLaws.{greatest-start, greatest-next, greatest-end}
-use mathlib.Core.Path.{◌≡◌, sym}
+use mathlib.Core.Path.{sym}
 use Rattle.checks.proofs.greatest_of.Goals as goal
 
 pub loop-e-init : goal.loop-e-init

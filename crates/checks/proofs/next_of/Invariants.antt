@@ -1,7 +1,7 @@
 -- `checks::next_of` meets its contract. The loop's invariant: no write of the origin stands in the places passed.
 use Prim.Native.Nat.{◌≤◌, ◌-◌}
 use Rattle.checks.specs.Walk.{origin_from}
-use mathlib.Core.Path.{◌≡◌, ◌∙◌}
+use mathlib.Core.Path.{◌≡◌}
 use Rattle.checks.proofs.next_of.Given as goal
 
 abbrev pub invariant-loop-r : goal.invariant-loop-r

@@ -1,4 +1,3 @@
-use Prim.Native.Nat.{◌≤◌, ◌-◌}
 use mathlib.Core.Path.{◌≡◌}
 use borrow.Author.Rules.{rules}
 use lib.ListN.{length}

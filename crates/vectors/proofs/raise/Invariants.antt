@@ -1,7 +1,7 @@
 -- `vectors::raise` meets its contract. The loop's invariant: the components passed are the join's, and the others are as they were. The
 -- measure is what is left of the length.
 use Prim.Native.Nat.{◌≤◌, ◌-◌}
-use mathlib.Core.Path.{◌≡◌, ◌∙◌}
+use mathlib.Core.Path.{◌≡◌}
 use lib.ListN.{length}
 use Rattle.words.specs.RowLaws.{filled}
 use Rattle.vectors.specs.Vector.{vector_of, join}

@@ -1,7 +1,6 @@
 use borrow.Author.Rules.{rules}
-use Prim.Native.Nat.{◌≤◌, ◌-◌}
 use Rattle.words.specs.TestLaws.{zeros-fail, zeros-more, zeros-all}
-use mathlib.Core.Path.{◌≡◌, refl, sym}
+use mathlib.Core.Path.{refl, sym}
 use Rattle.words.proofs.all_zero.Goals as goal
 
 pub loop-k-init : goal.loop-k-init

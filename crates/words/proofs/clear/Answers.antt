@@ -1,8 +1,7 @@
 use borrow.Author.Rules.{rules}
-use Prim.Native.Nat.{◌≤◌, ◌-◌}
 use Rattle.words.specs.BlockLaws.{row-replicate}
 use Rattle.words.specs.RowLaws.{filled_none, filled_next, filled-all}
-use mathlib.Core.Path.{◌≡◌, refl, sym, ◌∙◌}
+use mathlib.Core.Path.{refl, sym, ◌∙◌}
 use Rattle.words.proofs.clear.Goals as goal
 
 pub loop-i-init : goal.loop-i-init

@@ -1,5 +1,4 @@
 use borrow.Author.Rules.{rules}
-use Prim.Native.Nat.{◌≤◌, ◌-◌}
 use Rattle.words.specs.RowLaws.{filled, filled_none, filled_next, row-get_or}
 use lib.ListN.{length, get_or, drop}
 use mathlib.Core.List.{◌++◌}

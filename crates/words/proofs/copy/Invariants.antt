@@ -2,8 +2,7 @@
 use Prim.Native.Nat.{◌≤◌, ◌-◌}
 use Rattle.words.specs.RowLaws.{filled}
 use lib.ListN.{length, get_or}
-use mathlib.Core.List.{◌++◌}
-use mathlib.Core.Path.{◌≡◌, ◌∙◌}
+use mathlib.Core.Path.{◌≡◌}
 use Rattle.words.proofs.copy.Given as goal
 
 abbrev pub invariant-loop-j : goal.invariant-loop-j

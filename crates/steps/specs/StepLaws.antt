@@ -5,7 +5,7 @@ use Rattle.std.proofs.Common.{sym, ◌∙◌, ap, subst, arith}
 use Rattle.words.specs.Lists.{splice}
 use Rattle.words.specs.SpliceLaws.{set-five}
 use Rattle.tables.specs.Size.{Size}
-use Rattle.tables.specs.Layout.{size, size_of, decode}
+use Rattle.tables.specs.Layout.{size, size_of}
 use Rattle.tables.specs.Sound.{sound}
 use Rattle.tables.proofs.MeaningLaws.{sound-means}
 use Rattle.tables.proofs.ViewLaws.{length-view}

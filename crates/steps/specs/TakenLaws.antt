@@ -1,5 +1,5 @@
 -- A run takes its steps one after another: one step more of a list of words, and what it adds to the answers. Assumes nothing.
-use Rattle.std.specs.Prelude.{ℕ, zero, suc, ◌+◌, ◌*◌, ◌-◌, ◌≤◌, ◌<◌, ◌/◌, ◌%◌, true, false, ◌&&◌, ◌≡◌, refl, length, get_or}
+use Rattle.std.specs.Prelude.{ℕ, zero, suc, ◌+◌, ◌*◌, ◌≤◌, ◌<◌, ◌%◌, false, ◌&&◌, ◌≡◌, refl, length, get_or}
 use mathlib.Core.List.{List, [], ◌∷◌, ◌++◌, append-nil, append_assoc}
 use Rattle.std.proofs.Math.Path.{sym, ap}
 use Rattle.std.proofs.Common.{◌∙◌, ap₂, add-one, arith, eq-eqb, ne_eqb, length-drop, take-append-drop, drop-drop, get_or-drop, length-take-le}
@@ -9,9 +9,9 @@ use Rattle.std.proofs.Math.Seq.{take_all}
 use Rattle.words.specs.Lists.{splice}
 use Rattle.words.specs.PartLaws.{splice-middle}
 use Rattle.words.specs.TestLaws.{and_both}
-use Rattle.rules.specs.Step.{Step, steps_of, step_words, Answer, answer_words}
+use Rattle.rules.specs.Step.{Step, steps_of, Answer, answer_words}
 use Rattle.rules.specs.Calls.{step, onward, walk, lengths_fit, RunPromise}
-use Rattle.rules.proofs.CallLaws.{walk-one, walk-append}
+use Rattle.rules.proofs.CallLaws.{walk-append}
 use Rattle.rules.proofs.RunLaws.{run_fits, run-misfits, walk-answers, length-answer_words, step_words-steps_of, length-step_words}
 use Rattle.steps.specs.Taken.{step_at, Taken}
 

@@ -1,4 +1,3 @@
-pub mod Again
 pub mod CollectLaws
 pub mod FreshLaws
 pub mod ListedLaws

@@ -76,7 +76,7 @@ module _ (table steps answers out : List ℕ) where
   unfolding roomy
   roomy-room h =
       record {
-        for-table = leb-true 9012 (length table) (search (and_left, and_right));
+        for-table = leb-true 9012 (length table) (search and_left);
         for-steps = leb-true 2560 (length steps) (search (and_left, and_right));
         for-answers = leb-true 2560 (length answers) (search (and_left, and_right));
         for-out = leb-true 28160 (length out) (search (and_left, and_right));

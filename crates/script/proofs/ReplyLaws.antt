@@ -13,7 +13,7 @@ use Rattle.lines.proofs.ReadLaws.{read-sizes, sizes-read}
 use Rattle.lines.specs.FeedLaws.{feeds}
 use Rattle.lines.proofs.FeedLaws.{feeds-append, feeds-size_line, feeds-step_line}
 use Rattle.script.specs.Reply.{most_bytes, most_steps, admissible, StepLines, no_lines, next-line, Script, script, BadFirst, too_long, Reply, too-many-bytes, bad-first-line, bad-step-line, too-many-lines, answered}
-use Rattle.script.specs.Collect.{Collected, bad_at, sizes_of, collect_from, reply_for, reply_to}
+use Rattle.script.specs.Collect.{Collected, whole, bad_at, sizes_of, collect_from, reply_for, reply_to}
 use Rattle.script.specs.CollectLaws.{Says, all-good, one-bad, goes_on}
 use Rattle.script.proofs.CollectLaws.{collect-says, says-collect}
 use Rattle.script.specs.ReplyLaws.{first}
@@ -92,6 +92,9 @@ unfolding collect_from sizes_of
 behind-one text z {rest} short ok is says =
     sym (short-one text short ∙ ap reply_for (ap collect_from (first_read text z rest ok is) ∙ (cond-true (admissible z) _ _ ok ∙ says-collect z says)))
 
+whole-one : (z : Size) (text : List ℕ) (xs : List Step) → length text ≤ most_bytes → Script z xs text → length xs ≤ most_steps → reply_for (whole z xs) ≡ reply_to text
+whole-one z text xs short (script ok good) fit = behind-one text z short ok refl (all-good good fit)
+
 -- Each reply to a text is what the code finds for it.
 pub reply-one : (text out : List ℕ) → Reply text out → out ≡ reply_to text
 unfolding reply_for
@@ -101,7 +104,7 @@ reply-one text out (bad-step-line short z xs front rest (script {text = lines} o
     behind-one text z short ok (is ∙ append_assoc (size_line z) lines rest) (one-bad good fit bad)
 reply-one text out (too-many-lines short z xs front rest (script {text = lines} ok good) is fill there) =
     behind-one text z short ok (is ∙ append_assoc (size_line z) lines rest) (goes_on rest good fill there)
-reply-one text out (answered short z xs (script ok good) fit) = behind-one text z short ok refl (all-good good fit)
+reply-one text out (answered short z xs said fit) = whole-one z text xs short said fit
 
 -- So a text settles its reply.
 pub reply-settled : (text one other : List ℕ) → Reply text one → Reply text other → one ≡ other

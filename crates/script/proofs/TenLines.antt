@@ -1,10 +1,9 @@
 -- 01, "The desk program": the ten rows as text. The rows are written out in rules/Rows.antt alone; their text is spelled here from them, and
 -- one row of it byte by byte. Assumes nothing.
-use Rattle.std.specs.Prelude.{ℕ, cond, List, [], ◌∷◌, ◌++◌, ◌≡◌, refl, eqb}
+use Rattle.std.specs.Prelude.{[], ◌∷◌, ◌≡◌, refl}
 use Rattle.std.proofs.Common.{◌∙◌, ap, subst}
 use Rattle.tables.specs.Size.{within}
 use Rattle.tables.specs.Make.{fresh}
-use Rattle.rules.specs.Step.{Step, Answer}
 use Rattle.rules.specs.Calls.{walk}
 use Rattle.rules.specs.Rows.{small, ten-steps, ten-answers}
 use Rattle.rules.proofs.Rows.{ten-rows}
@@ -14,7 +13,7 @@ use Rattle.lines.specs.Read.{chain, begins, is_digit, more, read_number, read_fi
 use Rattle.script.specs.Reply.{admissible, answer_line, answer_lines, Reply}
 use Rattle.script.specs.Collect.{push, onto, unless_ended, collect, sizes_of, collect_from, reply_for, reply_to}
 use Rattle.script.proofs.ReplyLaws.{reply-found}
-use Rattle.script.specs.TenLines.{line_of, lines_of, ten-in}
+use Rattle.script.specs.TenLines.{line_of, ten-in}
 
 -- The steps are read.
 ten-read : reply_to ten-in ≡ answer_lines (walk (fresh small) ten-steps).answers

@@ -1,5 +1,5 @@
 -- Collecting finds exactly what it says: all lines, a bad one, or more than there is room for. Assumes nothing.
-use Prim.Native.Nat.{ℕ, ◌+◌, ◌-◌, ◌<◌, ◌≤◌}
+use Prim.Native.Nat.{ℕ, ◌+◌, ◌<◌, ◌≤◌}
 use mathlib.Core.List.{List, ◌++◌}
 use Rattle.std.specs.Prelude.{◌≡◌}
 use Rattle.std.proofs.Math.ListN.{length}

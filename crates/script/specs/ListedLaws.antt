@@ -1,7 +1,6 @@
 -- The first line; and the steps collected so far, and those still to come. Assumes nothing.
 use Rattle.std.specs.Prelude.{List, [], ◌∷◌}
 use Rattle.rules.specs.Step.{Step}
-use Rattle.lines.specs.declared.Line.TheVariants as line
 use Rattle.script.specs.Collect.{Collected, push}
 
 -- With all of these steps before.

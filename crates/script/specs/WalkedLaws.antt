@@ -1,6 +1,5 @@
 -- The walk over the lines: what one line more comes to, and what holds between two of them. Assumes nothing.
 use Rattle.std.specs.Prelude.{ℕ, suc, ◌-◌}
-use Rattle.lines.specs.declared.Line.TheVariants as line
 use Rattle.script.specs.Reply.{most_steps}
 use Rattle.script.specs.declared.collecting.Listed.{Listed}
 use Rattle.script.specs.declared.collecting.Listed.TheVariants.{Unread, Whole, BadAt, Longer}

@@ -1,6 +1,7 @@
 -- What is printed for a good script, by the plain book. Assumes nothing.
-use Rattle.std.specs.Prelude.{ℕ, ◌≤◌, true, List, ◌≡◌, leb, length, take}
-use Rattle.std.proofs.Common.{◌∙◌, ap}
+use Rattle.std.specs.Prelude.{ℕ, ◌≤◌, true, List, ◌≡◌, Option, leb, length, take}
+use Rattle.std.specs.Io.KnownBytes.{Appends}
+use Rattle.std.proofs.Common.{◌∙◌, ap, subst}
 use Rattle.words.specs.TestLaws.{and_left}
 use Rattle.tables.specs.Size.{Size, within}
 use Rattle.rules.specs.Step.{Step}
@@ -9,7 +10,7 @@ use Rattle.book.proofs.Schedule.{schedule-book}
 use Rattle.script.specs.Reply.{most_bytes, most_steps, admissible, Script, script, Reply, answered, answer_lines}
 use Rattle.script.proofs.ReplyLaws.{reply-settled}
 use Rattle.script.specs.Promised.{Room}
-use Rattle.desk.specs.Served.{ServePromise}
+use Rattle.desk.specs.Served.{ServePromise, Answered}
 use Rattle.desk.specs.ServedLaws.{served-reply}
 
 within-limits : {z : Size} {xs : List Step} {text : List ℕ} → Script z xs text → within z ≡ true
@@ -29,3 +30,9 @@ pub served-by-the-book : {table steps answers out text' table' steps' answers' o
     → take count out' ≡ answer_lines (book_answers z blank xs)
 served-by-the-book {out'} {count} served room z xs input is spelled short few =
     printed-by-the-book z xs input (take count out') spelled short few (served-reply served room input is)
+
+-- The same of what `work` leaves in its output.
+pub answered-by-the-book : {input : List ℕ} {before after : Option (List ℕ)} → Answered input before after → (z : Size) (xs : List Step) → Script z xs input
+    → length input ≤ most_bytes → length xs ≤ most_steps → Appends before after (answer_lines (book_answers z blank xs))
+answered-by-the-book {input} {before} {after} said z xs spelled short few =
+    subst (Appends before after) (printed-by-the-book z xs input said.bytes spelled short few said.is-reply) said.written

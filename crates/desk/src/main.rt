@@ -4,7 +4,7 @@
 
 ghost use Rattle.std.specs.Prelude.{◌≡◌, IfSome, OnOk, length, take};
 ghost use Rattle.std.specs.Io.KnownBytes.{Appends};
-ghost use Rattle.desk.specs.Served.{ServePromise, WorkPromise, Answers};
+ghost use Rattle.desk.specs.Served.{ServePromise, WorkPromise, Answered};
 
 use script::Told;
 use std::io;
@@ -50,7 +50,7 @@ fn serve<R: Read, W: Write>(
 // Serves in arrays that have room for every script. One byte of text more than the limit is enough to see that a text is too long.
 fn work<R: Read, W: Write>(input: &mut R, output: &mut W) -> Served
     ensures worked { WorkPromise result.read result.told.code result.told.count }
-    ensures answered { OnOk result.ended (OnOk result.written (IfSome (R.remaining input.old) (λ xs. Answers xs (W.contents output.old) (W.contents output.new)))) }
+    ensures answered { OnOk result.ended (OnOk result.written (IfSome (R.remaining input.old) (λ xs. Answered xs (W.contents output.old) (W.contents output.new)))) }
 {
     let mut text = [0u8; script::MOST_BYTES + 1];
     let mut table = [0u32; script::TABLE_WORDS];

@@ -62,10 +62,8 @@ fn put_step(script: &mut [u32], at: usize, x: [u32; 5]) {
 
 // The words of the steps of a list.
 pub fn put_steps(script: &mut [u32], list: &[[u32; 5]]) {
-    let mut i = 0;
-    while i < list.len() {
+    for i in 0..list.len() {
         put_step(script, i * 5, list[i]);
-        i += 1;
     }
 }
 

@@ -7,6 +7,9 @@ use Rattle.tables.proofs.ViewLaws.{within-view, length-view}
 use Rattle.kinds.specs.SessionLaws.{close-done, close-refused}
 use Rattle.kinds.proofs.sessions.close_slot.Goals as goal
 
+pub returns : goal.returns
+returns c = close-done c.requires.0 _ c.requires.1 c.guarantees.ensures (search rules) c.slot_at-a.ensures.is refl c.clear.ensures c.done.ensures
+
 pub guarantees-requires : goal.guarantees-requires
 guarantees-requires c = (laid c.requires.0, search rules)
 
@@ -18,6 +21,3 @@ slot_at-a-requires c = (within-view c.requires.0, search rules)
 
 pub slice_bounds-clear-end : goal.slice_bounds-clear-end
 slice_bounds-clear-end c = omega (arith, length-view c.requires.0, c.slot_at-a.ensures.inside)
-
-pub returns : goal.returns
-returns c = close-done c.requires.0 _ c.requires.1 c.guarantees.ensures c.if-guarantees-eq0.false c.slot_at-a.ensures.is refl c.clear.ensures c.done.ensures

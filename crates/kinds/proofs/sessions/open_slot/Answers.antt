@@ -6,6 +6,9 @@ use Rattle.tables.proofs.ViewLaws.{within-view, length-view}
 use Rattle.kinds.specs.SessionLaws.{open_done, open-refused}
 use Rattle.kinds.proofs.sessions.open_slot.Goals as goal
 
+pub returns : goal.returns
+returns c = open_done c.requires.0 _ c.requires.1 c.guarantees.ensures _ (search rules) c.slot_at-a.ensures.is c.done.ensures
+
 pub guarantees-requires : goal.guarantees-requires
 guarantees-requires c = (laid c.requires.0, search rules)
 
@@ -17,6 +20,3 @@ slot_at-a-requires c = (within-view c.requires.0, search rules)
 
 pub bounds-t-a : goal.bounds-t-a
 bounds-t-a c = omega (arith, length-view c.requires.0, c.slot_at-a.ensures.inside)
-
-pub returns : goal.returns
-returns c = open_done c.requires.0 _ c.requires.1 c.guarantees.ensures _ c.if-guarantees-ne0.false c.slot_at-a.ensures.is c.done.ensures

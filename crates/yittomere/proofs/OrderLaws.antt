@@ -1,6 +1,6 @@
 -- A table that is not sound and a wrong answer buffer together: the order in which the two are told decides the number that is returned, and
 -- no word of table or buffer. Assumes nothing.
-use Rattle.std.specs.Prelude.{ℕ, true, false, ◌⊎◌, ◌↔◌, ◌≡◌, refl, eqb, length}
+use Rattle.std.specs.Prelude.{ℕ, true, false, ◌⊎◌, ◌↔◌, ◌≡◌, eqb, length}
 use Rattle.std.proofs.Math.Bool.{cond}
 use mathlib.Core.List.{List, [], ◌∷◌}
 use Rattle.std.proofs.Common.{inl, inr, ⊎_elim, ◌∙◌, arith, eqb-true}
@@ -9,7 +9,6 @@ use Rattle.std.proofs.lemmas.Bool.{eqb-false}
 use Rattle.words.specs.TestLaws.{cond-true, cond-false, either}
 use Rattle.tables.specs.Sound.{sound}
 use Rattle.rules.specs.Step.{Step, refused, answer_words}
-use Rattle.rules.specs.Calls.{step, Ran}
 use Rattle.rules.proofs.CallLaws.{step-unsound}
 use Rattle.yittomere.specs.StepInto.{step_into}
 use Rattle.yittomere.proofs.StepIntoLaws.{step_into-fits, step_into-misfits}

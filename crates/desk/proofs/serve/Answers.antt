@@ -24,8 +24,9 @@ filled old new (Err e) text read within is end = tt
 
 pub returns : goal.returns
 returns g c =
+    let read = c.fill-read in
     record {
-      served = record { within = c.fill.ensures.within; replied = c.reply.ensures };
-      input = filled _ _ c.fill.result.1 c.fill.new.text c.fill.result.0 c.fill.ensures.within c.fill.ensures.bytes c.fill.ensures.end;
-      output = c.write_all.ensures;
+      served = record { within = read.ensures.within; replied = c.reply-told.ensures };
+      input = filled _ _ read.result.1 read.new.text read.result.0 read.ensures.within read.ensures.bytes read.ensures.end;
+      output = c.write_all-written.ensures.bytes;
     }

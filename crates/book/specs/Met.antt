@@ -44,11 +44,11 @@ abbrev pub second-write : Write
 second-write = record { origin = 1; clock = 2; item = 7; value = 60 }
 
 -- The tables before each of these steps, and at the end.
-abbrev pub at_1 : List ℕ
-at_1 = after (fresh small) (opening-step ∷ [])
+abbrev pub at-1 : List ℕ
+at-1 = after (fresh small) (opening-step ∷ [])
 
 abbrev pub at-2 : List ℕ
-at-2 = after at_1 (write-at-0 ∷ [])
+at-2 = after at-1 (write-at-0 ∷ [])
 
 abbrev pub at-3 : List ℕ
 at-3 = after at-2 (exchange-over ∷ [])
@@ -56,19 +56,19 @@ at-3 = after at-2 (exchange-over ∷ [])
 abbrev pub at-4 : List ℕ
 at-4 = after at-3 (read-at-1 ∷ [])
 
-abbrev pub at_5 : List ℕ
-at_5 = after at-4 (write-at-1 ∷ [])
+abbrev pub at-5 : List ℕ
+at-5 = after at-4 (write-at-1 ∷ [])
 
 abbrev pub at-6 : List ℕ
-at-6 = after at_5 (exchange-back ∷ [])
+at-6 = after at-5 (exchange-back ∷ [])
 
 pub record Met : Type 0 where
   -- The session is opened with the sum of all four, and lasts to the last read.
   pub opened : Opens (fresh small) opening-step 0 15
-  pub lasts : Lasts 0 at_1 (write-at-0 ∷ exchange-over ∷ read-at-1 ∷ write-at-1 ∷ exchange-back ∷ [])
+  pub lasts : Lasts 0 at-1 (write-at-0 ∷ exchange-over ∷ read-at-1 ∷ write-at-1 ∷ exchange-back ∷ [])
   pub asked : (read_your_writes 15 ≡ true) × (monotonic_reads 15 ≡ true) × (writes_follow_reads 15 ≡ true) × (monotonic_writes 15 ≡ true)
   -- Read Your Writes: the write at server 0, then the read at server 1.
-  pub wrote-first : Writes at_1 write-at-0 0 first-write
+  pub wrote-first : Writes at-1 write-at-0 0 first-write
   pub lasts-to-read : Lasts 0 at-2 (exchange-over ∷ [])
   pub read_first : Reads at-3 read-at-1 0 1
   pub chose-ryw : Chose at-3 0 read_your_writes

@@ -1,4 +1,5 @@
 -- `steps::step` meets its contract: a table that is not sound is refused, and on a sound one the step is applied.
+use borrow.Author.Rules.{rules}
 use Rattle.tables.specs.Layout.{size_of}
 use Rattle.steps.specs.StepLaws.{sound-long, sound-held, unsound-promised, step-promised}
 use native.Mathlib.Omega.{arith}
@@ -13,13 +14,13 @@ bounds-t-1 c = omega (arith, sound-long _ c.sound.ensures c.if-sound.true)
 pub bounds-t-2 : goal.bounds-t-2
 bounds-t-2 c = omega (arith, sound-long _ c.sound.ensures c.if-sound.true)
 
-pub apply-requires : goal.apply-requires
-unfolding size_of
-apply-requires c = sound-held _ c.sound.ensures c.if-sound.true c.new-z.ensures
-
 pub returns-then-sound : goal.returns-then-sound
 unfolding size_of
-returns-then-sound c = step-promised (sound-held _ c.sound.ensures c.if-sound.true c.new-z.ensures) c.apply.ensures
+returns-then-sound c = step-promised (sound-held _ c.sound.ensures c.if-sound.true c.new-z.ensures) (search rules)
 
 pub returns : goal.returns
 returns c = unsound-promised _ c.sound.ensures _ c.if-sound.false c.refusal.ensures
+
+pub apply-requires : goal.apply-requires
+unfolding size_of
+apply-requires c = sound-held _ c.sound.ensures c.if-sound.true c.new-z.ensures

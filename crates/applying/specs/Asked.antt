@@ -14,6 +14,6 @@ step_of x = record { kind = x.kind; a = x.a; b = x.b; c = x.c; d = x.d }
 
 -- A step on a sound table: the answer and every word are the rules', and the table is sound again.
 pub record Applied (z : Size) (t : List ℕ) (x : rules.Step) (r : Answer) (left : List ℕ) : Type 0 where
-  pub answer-is : r ≡ (rule z (decode z t) x).answer
+  pub answer_is : r ≡ (rule z (decode z t) x).answer
   pub table_is : left ≡ encode z (rule z (decode z t) x).state
-  pub is-sound : Means z (decode z left) left
+  pub is_sound : Means z (decode z left) left

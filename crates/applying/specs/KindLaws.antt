@@ -33,13 +33,13 @@ module _ (z : Size) (x : Step) where
   unfolding asked of_kind
   kind_3 e = ap (of_kind z x) e
 
-  pub kind-4 : x.kind ≡ 4 → asked z x ≡ if_in_range (write_in_range z x) (writes x.a x.b x.c x.d)
+  pub kind_4 : x.kind ≡ 4 → asked z x ≡ if_in_range (write_in_range z x) (writes x.a x.b x.c x.d)
   unfolding asked of_kind
-  kind-4 e = ap (of_kind z x) e
+  kind_4 e = ap (of_kind z x) e
 
-  pub kind-5 : x.kind ≡ 5 → asked z x ≡ if_in_range (exchange_in_range z x) (exchanges x.a x.b x.c)
+  pub kind_5 : x.kind ≡ 5 → asked z x ≡ if_in_range (exchange_in_range z x) (exchanges x.a x.b x.c)
   unfolding asked of_kind
-  kind-5 e = ap (of_kind z x) e
+  kind_5 e = ap (of_kind z x) e
 
   -- Every other number.
   pub kind-other : (x.kind ≡ 1 → ⊥) → (x.kind ≡ 2 → ⊥) → (x.kind ≡ 3 → ⊥) → (x.kind ≡ 4 → ⊥) → (x.kind ≡ 5 → ⊥) → asked z x ≡ bad
@@ -108,7 +108,7 @@ step-applied {z} {t} {left} {o} {r} held x e comes =
     let table : left ≡ encode z (rule z (decode z t) x).state =
     comes.table_is ∙ ap (λ p. encode z (obeyed z (decode z t) p).state) (sym e) in
     record {
-      answer-is = comes.answer-is ∙ ap (λ p. (obeyed z (decode z t) p).answer) (sym e);
+      answer_is = comes.answer_is ∙ ap (λ p. (obeyed z (decode z t) p).answer) (sym e);
       table_is = table;
-      is-sound = means-held (subst (Means z (rule z (decode z t) x).state) (ap (λ w. w.table) (step-means held x) ∙ sym table) (means-next held x));
+      is_sound = means-held (subst (Means z (rule z (decode z t) x).state) (ap (λ w. w.table) (step-means held x) ∙ sym table) (means-next held x));
     }

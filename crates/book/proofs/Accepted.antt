@@ -8,7 +8,7 @@ use Rattle.tables.specs.Meaning.{Means}
 use Rattle.rules.specs.Step.{Step, reads, writes, Answer}
 use Rattle.rules.proofs.StepLaws.{asked-read, asked-write}
 use Rattle.rules.specs.Rules.{rule}
-use Rattle.rules.specs.Done.{Answers, Shows, shows_nothing, shows-last, ReadDone, WriteDone}
+use Rattle.rules.specs.Done.{Answers, Shows, shows_nothing, shows_last, ReadDone, WriteDone}
 use Rattle.rules.proofs.DoneLaws.{read_done, write_done}
 use Rattle.rules.specs.Calls.{step}
 use Rattle.rules.proofs.CallLaws.{accepted-effect}
@@ -16,8 +16,8 @@ use Rattle.book.specs.Terms.{Reads, Writes}
 
 -- The server that a read names.
 shows-server : {item i : ℕ} {g : List Write} {r : Answer} → Shows item i g r → r.server ≡ i
-shows-server (shows_nothing h a) = a.server-is
-shows-server (shows-last w l a) = a.server-is
+shows-server (shows_nothing h a) = a.server_is
+shows-server (shows_last w l a) = a.server_is
 
 module _ {z : Size} {s : State} {t : List ℕ} (means : Means z s t) (x : Step) (k : ℕ) where
   -- An accepted read did what is said of it,
@@ -37,7 +37,7 @@ module _ {z : Size} {s : State} {t : List ℕ} (means : Means z s t) (x : Step) 
       (write_done means.state (accepted-effect means x r.accepted (writes x.a x.b x.c x.d) (asked-write z x r.kind)) r.accepted)
 
   -- The write made is the one answered.
-  pub write-is : (w : Write) (r : Writes t x k w) → w ≡ (write-did w r).write
-  write-is w r =
+  pub write_is : (w : Write) (r : Writes t x k w) → w ≡ (write-did w r).write
+  write_is w r =
       let a : Answers (step t x).answer 0 (write-did w r).server (write-did w r).server (write-did w r).clock x.c = (write-did w r).answered in
-      r.made ∙ ((λ d. record { origin = a.origin-is d; clock = a.clock-is d; item = x.b; value = x.c }) ∙ sym (write-did w r).write-is)
+      r.made ∙ ((λ d. record { origin = a.origin_is d; clock = a.clock_is d; item = x.b; value = x.c }) ∙ sym (write-did w r).write_is)

@@ -19,7 +19,7 @@ use Rattle.book.proofs.Remembering.{read-remembers, write-remembers, read-after,
 
 -- Any schedule from a sound table, and so from a fresh one (`fresh-sound`), with two of its steps marked: `pre`, the step x, `mid`, the
 -- step y, and `post`.
-module _ (t₀ : List ℕ) (is-sound : sound t₀ ≡ true) (pre : List Step) (x : Step) (mid : List Step) (y : Step) (post : List Step) where
+module _ (t₀ : List ℕ) (is_sound : sound t₀ ≡ true) (pre : List Step) (x : Step) (mid : List Step) (y : Step) (post : List Step) where
   -- The table before x, right after it, before y, right after it, and at any later moment.
   abbrev pub t₁ : List ℕ
   t₁ = after t₀ pre
@@ -62,7 +62,7 @@ module _ (t₀ : List ℕ) (is-sound : sound t₀ ≡ true) (pre : List Step) (x
   s₅ = state_after z s₄ post
 
   m₁ : Means z s₁ t₁
-  m₁ = means-after (sound-means t₀ is-sound) pre
+  m₁ = means-after (sound-means t₀ is_sound) pre
 
   m₂ : Means z s₂ t₂
   m₂ = means-after m₁ (x ∷ [])
@@ -120,7 +120,7 @@ module _ (t₀ : List ℕ) (is-sound : sound t₀ ≡ true) (pre : List Step) (x
 
 -- No server ever loses a write: what is stored at one moment is stored at every later one.
 pub never-lost : (t₀ : List ℕ) → sound t₀ ≡ true → (pre post : List Step) (i : ℕ) (w : Write) → Stores (after t₀ pre) i w → Stores (after t₀ (pre ++ post)) i w
-never-lost t₀ is-sound pre post i w m =
-    let m₁ = means-after (sound-means t₀ is-sound) pre in
+never-lost t₀ is_sound pre post i w m =
+    let m₁ = means-after (sound-means t₀ is_sound) pre in
     subst (λ (t : List ℕ). Stores t i w) (sym (after-append t₀ pre post))
     (stores (means-after m₁ post) i w (kept-after m₁ post i w (stored m₁ i w m)))

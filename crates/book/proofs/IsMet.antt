@@ -33,17 +33,17 @@ met =
         (λ c. omega (arith, c.kind), (λ c. omega (arith, c.kind), (λ c. omega (arith, c.kind), (λ c. omega (arith, c.kind), tt)))),
       );
       asked = (refl, refl, refl, refl);
-      wrote-first = record { kind = refl; slot = refl; accepted = refl; made = refl };
-      lasts-to-read = (λ c. omega (arith, c.kind), tt);
+      wrote_first = record { kind = refl; slot = refl; accepted = refl; made = refl };
+      lasts_to_read = (λ c. omega (arith, c.kind), tt);
       read_first = record { kind = refl; slot = refl; accepted = refl; server = refl };
-      chose-ryw = record { session = _; is = refl; chosen = refl };
-      lasts-to-reread = (λ c. omega (arith, c.kind), (λ c. omega (arith, c.kind), tt));
-      read-second = record { kind = refl; slot = refl; accepted = refl; server = refl };
-      chose-mr = record { session = _; is = refl; chosen = refl };
+      chose_ryw = record { session = _; is = refl; chosen = refl };
+      lasts_to_reread = (λ c. omega (arith, c.kind), (λ c. omega (arith, c.kind), tt));
+      read_second = record { kind = refl; slot = refl; accepted = refl; server = refl };
+      chose_mr = record { session = _; is = refl; chosen = refl };
       depends = here refl;
-      wrote-second = record { kind = refl; slot = refl; accepted = refl; made = refl };
-      lasts-to-write = (λ c. omega (arith, c.kind), (λ c. omega (arith, c.kind), tt));
-      chose-wfr = record { session = _; is = refl; chosen = refl };
-      chose-mw = record { session = _; is = refl; chosen = refl };
+      wrote_second = record { kind = refl; slot = refl; accepted = refl; made = refl };
+      lasts_to_write = (λ c. omega (arith, c.kind), (λ c. omega (arith, c.kind), tt));
+      chose_wfr = record { session = _; is = refl; chosen = refl };
+      chose_mw = record { session = _; is = refl; chosen = refl };
       reached = there (here refl);
     }

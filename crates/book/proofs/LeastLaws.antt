@@ -7,7 +7,7 @@ use Rattle.words.specs.TestLaws.{true-not-false, not-true-false, cond-elim}
 use Rattle.words.specs.CaseLaws.{each}
 use Rattle.logs.specs.Write.{Write, before, same}
 use Rattle.logs.proofs.WriteLaws.{before-irrefl, same_true, eq-same, not-before-trans, not-before-self, not-before-back}
-use Rattle.logs.specs.Ascending.{Ascending, ascending-nil, ascending-cons}
+use Rattle.logs.specs.Ascending.{Ascending, ascending_nil, ascending_cons}
 use Rattle.book.specs.Book.{least, least_first}
 use Rattle.book.specs.LeastLaws.{without}
 
@@ -34,25 +34,25 @@ least-first w (y ∷ ys) =
 pub least_first-take : (k : ℕ) {g : List Write} (h : List Write) → Ascending g → SameMembers g h → least_first k h ≡ take k g
 unfolding least_first
 least_first-take zero h a m = refl
-least_first-take (suc k) [] ascending-nil m = refl
-least_first-take (suc k) [] (ascending-cons {w = y} head rest) m = in-nil (m.over y (here refl))
-least_first-take (suc k) (w ∷ ws) ascending-nil m = in-nil (m.back w (here refl))
-least_first-take (suc k) (w ∷ ws) (ascending-cons {w = y} {ws = ys} head rest) m =
-    ap₂ {C = List Write} (λ v vs. v ∷ vs) first-is
+least_first-take (suc k) [] ascending_nil m = refl
+least_first-take (suc k) [] (ascending_cons {w = y} head rest) m = in-nil (m.over y (here refl))
+least_first-take (suc k) (w ∷ ws) ascending_nil m = in-nil (m.back w (here refl))
+least_first-take (suc k) (w ∷ ws) (ascending_cons {w = y} {ws = ys} head rest) m =
+    ap₂ {C = List Write} (λ v vs. v ∷ vs) first_is
     (least_first-take k (without (least w ws) (w ∷ ws)) rest (record { over = over-rest; back = back-rest }))
   where
-    first-is : least w ws ≡ y
-    first-is =
+    first_is : least w ws ≡ y
+    first_is =
         ⊎_elim (λ e. e) (λ h. true-not-false (head (least w ws) h) (least-first w ws y (m.over y (here refl))))
         (in-cons (m.back (least w ws) (least-in w ws)))
 
     over-rest : (x : Write) → In x ys → In x (without (least w ws) (w ∷ ws))
     over-rest x h =
         keep-in (λ v. not (same v (least w ws))) (m.over x (there h))
-        (ap not (not-true-false (same x (least w ws)) (λ e. before-irrefl y (subst (λ (v : Write). before y v ≡ true) (same_true x (least w ws) e ∙ first-is) (head x h)))))
+        (ap not (not-true-false (same x (least w ws)) (λ e. before-irrefl y (subst (λ (v : Write). before y v ≡ true) (same_true x (least w ws) e ∙ first_is) (head x h)))))
 
     back-rest : (x : Write) → In x (without (least w ws) (w ∷ ws)) → In x ys
     back-rest x h =
         ⊎_elim (λ (p : x ≡ y). true-not-false (keep-passes (λ v. not (same v (least w ws))) (w ∷ ws) h)
-        (ap not (eq-same x (least w ws) (p ∙ sym first-is)))) (λ m'. m')
+        (ap not (eq-same x (least w ws) (p ∙ sym first_is)))) (λ m'. m')
         (in-cons (m.back x (in-keep (λ v. not (same v (least w ws))) (w ∷ ws) h)))

@@ -36,7 +36,7 @@ open-below : {z : Size} {s : State} {t : List ℕ} → Means z s t → (k : ℕ)
 open-below {z} means k q e = ⊎_elim (λ l. l) (λ l. not-both e (means.state.no_slot k l)) (lt-or-le k z.p)
 
 -- Any sound table, the step that opens slot k, and a schedule behind it that does not close the slot.
-module _ (t : List ℕ) (is-sound : sound t ≡ true) (o : Step) (k g : ℕ) (opens : Opens t o k g) (xs : List Step) (lasts : Lasts k (after t (o ∷ [])) xs) where
+module _ (t : List ℕ) (is_sound : sound t ≡ true) (o : Step) (k g : ℕ) (opens : Opens t o k g) (xs : List Step) (lasts : Lasts k (after t (o ∷ [])) xs) where
   -- The table behind the schedule.
   abbrev then : List ℕ
   then = after (after t (o ∷ [])) xs
@@ -46,10 +46,10 @@ module _ (t : List ℕ) (is-sound : sound t ≡ true) (o : Step) (k g : ℕ) (op
   unfolding after walk onward
   has-asked =
       let done : OpenDone (decode (size_of t) t) o.a o.b (step t o).answer (decode (size_of (step t o).table) (step t o).table) =
-      open-exactly t o is-sound opens.accepted opens.kind in
-      let means = sound-means (step t o).table (after-sound t (o ∷ []) is-sound) in
+      open-exactly t o is_sound opens.accepted opens.kind in
+      let means = sound-means (step t o).table (after-sound t (o ∷ []) is_sound) in
       let here : (decode (size_of (step t o).table) (step t o).table).slot k ≡ opened done.next =
-      subst (λ (m : ℕ). (decode (size_of (step t o).table) (step t o).table).slot m ≡ opened done.next) opens.slot done.now-open in
+      subst (λ (m : ℕ). (decode (size_of (step t o).table) (step t o).table).slot m ≡ opened done.next) opens.slot done.now_open in
       let still : Still (state_after _ _ xs) k done.next = still_after means k done.next here xs lasts in
       record {
         session = still.session;
@@ -60,7 +60,7 @@ module _ (t : List ℕ) (is-sound : sound t ≡ true) (o : Step) (k g : ℕ) (op
   -- In words: the slot's first word is one more than that sum.
   pub asked-word : get_or then (guarantees_at (size_of then) k) 0 ≡ suc g
   asked-word =
-      let means : Means (size_of then) (decode (size_of then) then) then = sound-means then (after-sound (after t (o ∷ [])) xs (after-sound t (o ∷ []) is-sound)) in
+      let means : Means (size_of then) (decode (size_of then) then) then = sound-means then (after-sound (after t (o ∷ [])) xs (after-sound t (o ∷ []) is_sound)) in
       guarantees-view means k (open-below means k has-asked.session has-asked.is) has-asked.session has-asked.is ∙ ap suc has-asked.sum
 
   -- So a guarantee is chosen then exactly if it was asked for.

@@ -18,7 +18,7 @@ use Rattle.rules.specs.Done.{WriteDone}
 use Rattle.rules.specs.Step.{Op, Answer}
 use Rattle.rules.specs.StepLaws.{InRange}
 use Rattle.rules.specs.Rules.{new_write, accepted, sent, received}
-use Rattle.rules.specs.Effects.{Effect, was-refused, was-opened, was-closed, was_read, was-written, was-exchanged}
+use Rattle.rules.specs.Effects.{Effect, was_refused, was_opened, was_closed, was_read, was_written, was_exchanged}
 use Rattle.rules.proofs.Arrivals.{new-clock, sent-from, sent-after}
 use Rattle.rules.proofs.SoundKept.{effect-keeps}
 use Rattle.book.specs.Propagation.{Precedes}
@@ -42,7 +42,7 @@ module _ {z : Size} {s : State} (sound : SoundState z s) where
       let w₂ = d.write in
       record {
         ordered = d.last w₁ m;
-        made = subst (λ (i : ℕ). In w₂ (after.log i)) (sym (ap (λ w. w.origin) d.write-is))
+        made = subst (λ (i : ℕ). In w₂ (after.log i)) (sym (ap (λ w. w.origin) d.write_is))
             (subst (λ (g : List Write). In w₂ g) (sym d.stored) (in_append_right (s.log j) (here refl)));
         along = λ i m'. at-server i (same_or_not i d.server) m';
       }
@@ -55,7 +55,7 @@ module _ {z : Size} {s : State} (sound : SoundState z s) where
           subst (λ (g : List Write). In w₁ g) (sym (ap after.log e ∙ d.stored)) (in_append_left (d.write ∷ []) m)
       at-server i (inr e) l =
           new-nowhere d.server item value d.chosen.server i
-          (subst₂ (λ (w : Write) (g : List Write). In w g) (d.write-is ∙ new_is) (d.other-logs i e) l)
+          (subst₂ (λ (w : Write) (g : List Write). In w g) (d.write_is ∙ new_is) (d.other_logs i e) l)
 
   module _ (w₁ w₂ : Write) (precedes : Precedes s w₁ w₂) where
     along-written : (j item value : ℕ) → j < z.n → (i : ℕ)
@@ -88,9 +88,9 @@ module _ {z : Size} {s : State} (sound : SoundState z s) where
         }
       where
         along : {o : Op} {r : Answer} {after : State} → Effect z s o r after → (i : ℕ) → In w₂ (after.log i) → In w₁ (after.log i)
-        along (was-refused code h) i m = precedes.along i m
-        along (was-opened e) i m = precedes.along i m
-        along (was-closed q e) i m = precedes.along i m
+        along (was_refused code h) i m = precedes.along i m
+        along (was_opened e) i m = precedes.along i m
+        along (was_closed q e) i m = precedes.along i m
         along (was_read q j e c) i m = precedes.along i m
-        along (was-written {item = item} {value = value} q j e c) i m = along-written j item value c.server i m
-        along (was-exchanged {source = source} {target = target} {most = most} e) i m = along-received source target most i m
+        along (was_written {item = item} {value = value} q j e c) i m = along-written j item value c.server i m
+        along (was_exchanged {source = source} {target = target} {most = most} e) i m = along-received source target most i m

@@ -25,7 +25,7 @@ use Rattle.book.specs.Propagation.{Precedes}
 use Rattle.book.proofs.Propagation.{accepted-precedes}
 use Rattle.book.specs.Moments.{state_after}
 use Rattle.book.proofs.Moments.{stored, stores, kept-after, still_after}
-use Rattle.book.proofs.Accepted.{read-did, read_at, write-did, write-is}
+use Rattle.book.proofs.Accepted.{read-did, read_at, write-did, write_is}
 use Rattle.book.specs.Remembering.{Remembers}
 
 -- ---- a server that passes the check has what the vector covers
@@ -56,16 +56,16 @@ module _ {z : Size} {s : State} {t : List ℕ} (means : Means z s t) (x : Step) 
   pub write-remembers : (w : Write) → Writes t x k w → Remembers (rule z s x).state k (λ q. q.write_vector) w
   write-remembers w r =
       let d : WriteDone z s k x.b x.c x.d (step t x).answer (rule z s x).state = write-did means x k w r in
-      let home : d.write.origin ≡ d.server = ap (λ v. v.origin) d.write-is in
+      let home : d.write.origin ≡ d.server = ap (λ v. v.origin) d.write_is in
       let new : Remembers (rule z s x).state k (λ q. q.write_vector) d.write =
       record {
         session = d.next;
         is = d.still_open;
-        covers = omega (arith, ap (λ v. v.clock) d.write-is, d.set, ap d.next.write_vector home);
+        covers = omega (arith, ap (λ v. v.clock) d.write_is, d.set, ap d.next.write_vector home);
         made = subst (λ (j : ℕ). In d.write ((rule z s x).state.log j)) (sym home)
             (subst (λ (g : List Write). In d.write g) (sym d.stored) (in_append_right (s.log d.server) (here refl)));
       } in
-      subst (Remembers (rule z s x).state k (λ q. q.write_vector)) (sym (write-is means x k w r)) new
+      subst (Remembers (rule z s x).state k (λ q. q.write_vector)) (sym (write_is means x k w r)) new
 
 -- Still remembered at a later moment of the session.
 module _ {z : Size} {s : State} {t : List ℕ} (means : Means z s t) (k : ℕ) (xs : List Step) (lasts : Lasts k t xs) (w : Write) where
@@ -104,8 +104,8 @@ module _ {z : Size} {s : State} {t : List ℕ} (means : Means z s t) (y : Step) 
       let d : ReadDone z s k y.b y.c (step t y).answer (rule z s y).state = read-did means y k j r in
       let q = d.session in
       stores means j w (subst (λ (i : ℕ). In w (s.log i)) (read_at means y k j r) (dominated-stored means.state d.server (vector q)
-      (checked q (s.vector d.server) ((current-to-read z s q d.server).0 d.chosen.passed) (chose-here guarantee q d.open-slot c)) w m.made
-      (subst (λ (p : Session). w.clock ≤ vector p w.origin) (one-session m.is d.open-slot) m.covers)))
+      (checked q (s.vector d.server) ((current-to-read z s q d.server).0 d.chosen.passed) (chose-here guarantee q d.open_slot c)) w m.made
+      (subst (λ (p : Session). w.clock ≤ vector p w.origin) (one-session m.is d.open_slot) m.covers)))
 
   -- A write that is taken by a guarantee comes behind the write remembered.
   pub write-served : (guarantee : ℕ → Bool) (vector : Session → ℕ → ℕ)
@@ -117,6 +117,6 @@ module _ {z : Size} {s : State} {t : List ℕ} (means : Means z s t) (y : Step) 
       let held : In w (s.log d.server) =
       dominated-stored means.state d.server (vector q) (checked q (s.vector d.server)
       ((current-to-write z s q d.server).0 (may-current z s q d.server d.chosen.passed))
-      (chose-here guarantee q d.open-slot c)) w m.made
-      (subst (λ (p : Session). w.clock ≤ vector p w.origin) (one-session m.is d.open-slot) m.covers) in
-      subst (λ (v : Write). Precedes (rule z s y).state w v) (sym (write-is means y k w₂ r)) (accepted-precedes means.state d w held)
+      (chose-here guarantee q d.open_slot c)) w m.made
+      (subst (λ (p : Session). w.clock ≤ vector p w.origin) (one-session m.is d.open_slot) m.covers) in
+      subst (λ (v : Write). Precedes (rule z s y).state w v) (sym (write_is means y k w₂ r)) (accepted-precedes means.state d w held)

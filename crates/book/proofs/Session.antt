@@ -14,7 +14,7 @@ use Rattle.tables.specs.State.{Session, closed, opened, State, with_vector, with
 use Rattle.tables.specs.SoundState.{SoundState, SoundSession, SoundSlot}
 use Rattle.rules.specs.Step.{Op, closes, Answer, done}
 use Rattle.rules.specs.Rules.{new_session, after_read, after_write, accepted, received, new_write}
-use Rattle.rules.specs.Effects.{Effect, was-refused, was-opened, was-closed, was_read, was-written, was-exchanged}
+use Rattle.rules.specs.Effects.{Effect, was_refused, was_opened, was_closed, was_read, was_written, was_exchanged}
 use Rattle.rules.proofs.Arrivals.{new-above}
 use Rattle.book.specs.Session.{Later, Still}
 
@@ -57,17 +57,17 @@ module _ {z : Size} {s : State} (sound : SoundState z s) (k : ℕ) (q : Session)
   -- A step that does not close the session leaves it open, and it forgets nothing.
   pub effect-still : {o : Op} {r : Answer} {after : State} → Effect z s o r after → (o ≡ closes k → r.code ≡ 0 → ⊥) → Still after k q
   unfolding accepted received with_vector with_log with_slot done
-  effect-still (was-refused code h) lasts = record { session = q; is = e; later = later_refl q }
-  effect-still (was-opened {k = m} {g = g} p) lasts =
+  effect-still (was_refused code h) lasts = record { session = q; is = e; later = later_refl q }
+  effect-still (was_opened {k = m} {g = g} p) lasts =
       still-set s m (new_session g) k q e (λ d. not-both e (ap s.slot d ∙ p))
-  effect-still (was-closed {k = m} r p) lasts =
+  effect-still (was_closed {k = m} r p) lasts =
       ⊎_elim (λ t. absurd (lasts (ap closes (sym (eqb-true k m t))) refl))
       (λ t. record { session = q; is = upd_other s.slot m closed k (eqb-false k m t) ∙ e; later = later_refl q }) (either (eqb k m))
   effect-still (was_read {k = m} r i p c) lasts =
       still-set s m (after_read r i (s.vector i)) k q e
       (λ d. subst (λ (t : Session). Later q (after_read t i (s.vector i))) (sym (one-session (ap s.slot d ∙ p) e)) (read-later i (s.vector i)))
-  effect-still (was-written {k = m} {item = item} {value = value} r i p c) lasts =
+  effect-still (was_written {k = m} {item = item} {value = value} r i p c) lasts =
       still-set _ m (after_write r i (new_write z s i item value).clock) k q e (λ d. subst
       (λ (t : Session). Later q (after_write t i (new_write z s i item value).clock)) (sym (one-session (ap s.slot d ∙ p) e))
       (write-later i item value c.server))
-  effect-still (was-exchanged p) lasts = record { session = q; is = e; later = later_refl q }
+  effect-still (was_exchanged p) lasts = record { session = q; is = e; later = later_refl q }

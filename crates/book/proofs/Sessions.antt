@@ -13,7 +13,7 @@ use Rattle.book.proofs.Guarantees.{read-your-writes, monotonic-reads, writes-fol
 
 -- Any schedule from a sound table, and so from a fresh one, with three of its steps marked: `pre`, the step o, `early`, the step x, `mid`,
 -- the step y, and `post`.
-module _ (t₀ : List ℕ) (is-sound : sound t₀ ≡ true) (pre : List Step) (o : Step) (early : List Step) (x : Step) (mid : List Step) (y : Step) (post : List Step) where
+module _ (t₀ : List ℕ) (is_sound : sound t₀ ≡ true) (pre : List Step) (o : Step) (early : List Step) (x : Step) (mid : List Step) (y : Step) (post : List Step) where
   -- The table before o, right after it, before x, right after it, before y, right after it, and at any later moment.
   abbrev pub t₁ : List ℕ
   t₁ = after t₀ pre
@@ -46,7 +46,7 @@ module _ (t₀ : List ℕ) (is-sound : sound t₀ ≡ true) (pre : List Step) (o
   -- The session in slot k that o opens with the sum g, and that lasts until y.
   module _ (k g : ℕ) (opens : Opens t₁ o k g) (lasts : Lasts k t₂ (early ++ (x ∷ mid))) where
     sound₁ : sound t₁ ≡ true
-    sound₁ = after-sound t₀ pre is-sound
+    sound₁ = after-sound t₀ pre is_sound
 
     sound₂ : sound t₂ ≡ true
     sound₂ = after-sound t₁ (o ∷ []) sound₁

@@ -17,7 +17,7 @@ use Rattle.tables.proofs.MeaningLaws.{sound-means, means-state}
 use Rattle.rules.specs.Step.{Step, Op, opens, Answer, done}
 use Rattle.rules.proofs.StepLaws.{asked-opens}
 use Rattle.rules.specs.Rules.{accepted, received}
-use Rattle.rules.specs.Effects.{Effect, was-refused, was-opened, was-closed, was_read, was-written, was-exchanged}
+use Rattle.rules.specs.Effects.{Effect, was_refused, was_opened, was_closed, was_read, was_written, was_exchanged}
 use Rattle.rules.specs.Calls.{step}
 use Rattle.rules.proofs.CallLaws.{step-effect, step-answer, means-next}
 use Rattle.rules.specs.Done.{OpenDone, CloseDone}
@@ -59,20 +59,20 @@ done-or-not t x kind k =
 closed-stays : {z : Size} {s : State} (k : ℕ) → s.slot k ≡ closed → {o : Op} {r : Answer} {after : State} → Effect z s o r after
     → ((g : ℕ) → o ≡ opens k g → r.code ≡ 0 → ⊥) → after.slot k ≡ closed
 unfolding accepted received with_vector with_log with_slot done
-closed-stays k e (was-refused code h) unopened = e
-closed-stays {s = s} k e (was-opened {k = m} {g = g} p) unopened =
+closed-stays k e (was_refused code h) unopened = e
+closed-stays {s = s} k e (was_opened {k = m} {g = g} p) unopened =
     ⊎_elim (λ t. absurd (unopened g (ap (λ j. opens j g) (sym (eqb-true k m t))) refl)) (λ t. upd_other s.slot m _ k (eqb-false k m t) ∙ e)
     (either (eqb k m))
-closed-stays {s = s} k e (was-closed {k = m} q p) unopened =
+closed-stays {s = s} k e (was_closed {k = m} q p) unopened =
     ⊎_elim (λ t. upd_same s.slot m closed k (eqb-true k m t)) (λ t. upd_other s.slot m closed k (eqb-false k m t) ∙ e) (either (eqb k m))
 closed-stays {s = s} k e (was_read {k = m} q i p c) unopened =
     ⊎_elim (λ t. not-both (ap s.slot (eqb-true k m t) ∙ p) e) (λ t. upd_other s.slot m _ k (eqb-false k m t) ∙ e) (either (eqb k m))
-closed-stays {s = s} k e (was-written {k = m} q i p c) unopened =
+closed-stays {s = s} k e (was_written {k = m} q i p c) unopened =
     ⊎_elim (λ t. not-both (ap s.slot (eqb-true k m t) ∙ p) e) (λ t. upd_other s.slot m _ k (eqb-false k m t) ∙ e) (either (eqb k m))
-closed-stays k e (was-exchanged p) unopened = e
+closed-stays k e (was_exchanged p) unopened = e
 
 -- The buyer's third demand: "A session runs from its opening to its closing." Whatever the step,
-module _ (t : List ℕ) (is-sound : sound t ≡ true) (x : Step) (k : ℕ) where
+module _ (t : List ℕ) (is_sound : sound t ≡ true) (x : Step) (k : ℕ) where
   abbrev before : State
   before = decode (size_of t) t
 
@@ -80,15 +80,15 @@ module _ (t : List ℕ) (is-sound : sound t ≡ true) (x : Step) (k : ℕ) where
   then = decode (size_of (step t x).table) (step t x).table
 
   abbrev means : Means (size_of t) before t
-  means = sound-means t is-sound
+  means = sound-means t is_sound
 
   -- a closed slot is open after it exactly if the step opens it,
   pub begins-exactly : before.slot k ≡ closed → Open then k ↔ Opens t x k x.b
   begins-exactly shut = (
     λ o. ⊎_elim (λ d. record { kind = d.0; slot = d.1; asked = refl; accepted = d.2 }) (λ n. not-both o.is (stays n)) (done-or-not t x 1 k),
     λ o.
-        let done : OpenDone before x.a x.b (step t x).answer then = open-exactly t x is-sound o.accepted o.kind in
-        record { session = done.next; is = subst (λ (m : ℕ). then.slot m ≡ opened done.next) o.slot done.now-open },
+        let done : OpenDone before x.a x.b (step t x).answer then = open-exactly t x is_sound o.accepted o.kind in
+        record { session = done.next; is = subst (λ (m : ℕ). then.slot m ≡ opened done.next) o.slot done.now_open },
   )
     where
       stays : (Done t x 1 k → ⊥) → then.slot k ≡ closed
@@ -104,8 +104,8 @@ module _ (t : List ℕ) (is-sound : sound t ≡ true) (x : Step) (k : ℕ) where
   ends-exactly was = (
     λ shut. ⊎_elim (λ d. record { kind = d.0; slot = d.1; accepted = d.2 }) (λ n. not-both (stays n) shut) (done-or-not t x 2 k),
     λ c.
-        let done : CloseDone before x.a (step t x).answer then = close-exactly t x is-sound c.accepted c.kind in
-        subst (λ (m : ℕ). then.slot m ≡ closed) c.slot done.now-closed,
+        let done : CloseDone before x.a (step t x).answer then = close-exactly t x is_sound c.accepted c.kind in
+        subst (λ (m : ℕ). then.slot m ≡ closed) c.slot done.now_closed,
   )
     where
       still : (Done t x 2 k → ⊥) → Still (state_after (size_of t) before (x ∷ [])) k was.session

@@ -32,7 +32,7 @@ module _ {z : Size} {t : List ℕ} {k : ℕ} (asking : Asking z t k) where
 
   -- There is a server to start at.
   pub asking-starts : start_of (session_in z t k) < z.n
-  asking-starts = starts (within-view asking.means).some-server asking.means.state k (session_in z t k) asking.is_open
+  asking-starts = starts (within-view asking.means).some_server asking.means.state k (session_in z t k) asking.is_open
 
   module _ (i : ℕ) (h : i < z.n) where
     -- Two slices that hold the server's vector and another one: they have one length,

@@ -21,7 +21,7 @@ use Rattle.rules.specs.Rules.{refuse, read_answer, read_from, write_answer, writ
 use Rattle.choice.specs.declared.Choice.{Choice}
 use Rattle.choice.specs.declared.Choice.TheVariants.{At, Behind, Full}
 use Rattle.choice.specs.Outcome.{Valued, value_of, outcome, up_to_date_to, serves, found, read_verdict, write_verdict, verdict_to, verdict, of_worst, searched}
-use Rattle.choice.specs.OutcomeLaws.{Judged, answered, is-behind, is-full, serves-it}
+use Rattle.choice.specs.OutcomeLaws.{Judged, answered, is_behind, is_full, serves_it}
 
 -- ---- any servers, any verdicts
 
@@ -35,9 +35,9 @@ module _ (up_to_date serving : ℕ → Bool) (verdict_on : ℕ → ℕ) (judged 
       go : {v : ℕ} → Judged (up_to_date x) (serving x) v
           → value_of (searched verdict_on 7 xs) ≡ outcome (some i) (first serving xs)
           → value_of (cond (eqb v 0) (At x) (searched verdict_on (max 7 v) xs)) ≡ outcome (some i) (cond (serving x) (some x) (first serving xs))
-      go (serves-it c p) rest = ap (outcome (some i)) (sym (cond-true (serving x) _ _ p))
-      go (is-full c p) rest = rest ∙ ap (outcome (some i)) (sym (cond-false (serving x) _ _ p))
-      go (is-behind c p) rest = rest ∙ ap (outcome (some i)) (sym (cond-false (serving x) _ _ p))
+      go (serves_it c p) rest = ap (outcome (some i)) (sym (cond-true (serving x) _ _ p))
+      go (is_full c p) rest = rest ∙ ap (outcome (some i)) (sym (cond-false (serving x) _ _ p))
+      go (is_behind c p) rest = rest ∙ ap (outcome (some i)) (sym (cond-false (serving x) _ _ p))
 
   -- From the start, the two searches.
   pub searched-outcome : (xs : List ℕ) → value_of (searched verdict_on 6 xs) ≡ outcome (first up_to_date xs) (first serving xs)
@@ -50,9 +50,9 @@ module _ (up_to_date serving : ℕ → Bool) (verdict_on : ℕ → ℕ) (judged 
           → value_of (searched verdict_on 7 xs) ≡ outcome (some x) (first serving xs)
           → value_of (cond (eqb v 0) (At x) (searched verdict_on (max 6 v) xs))
           ≡ outcome (cond (up_to_date x) (some x) (first up_to_date xs)) (cond (serving x) (some x) (first serving xs))
-      go (serves-it c p) rest full = ap₂ outcome (sym (cond-true (up_to_date x) _ _ c)) (sym (cond-true (serving x) _ _ p))
-      go (is-full c p) rest full = full ∙ ap₂ outcome (sym (cond-true (up_to_date x) _ _ c)) (sym (cond-false (serving x) _ _ p))
-      go (is-behind c p) rest full = rest ∙ ap₂ outcome (sym (cond-false (up_to_date x) _ _ c)) (sym (cond-false (serving x) _ _ p))
+      go (serves_it c p) rest full = ap₂ outcome (sym (cond-true (up_to_date x) _ _ c)) (sym (cond-true (serving x) _ _ p))
+      go (is_full c p) rest full = full ∙ ap₂ outcome (sym (cond-true (up_to_date x) _ _ c)) (sym (cond-false (serving x) _ _ p))
+      go (is_behind c p) rest full = rest ∙ ap₂ outcome (sym (cond-false (up_to_date x) _ _ c)) (sym (cond-false (serving x) _ _ p))
 
 -- ---- the verdicts of a read and of a write
 
@@ -60,14 +60,14 @@ module _ (z : Size) (s : State) (q : Session) (reach : ℕ) where
   read-judged : (i : ℕ) → Judged (up_to_date_to_read z s q i) (up_to_date_to_read z s q i) (read_verdict z s q i)
   unfolding read_verdict
   read-judged i =
-      cond-elim (Judged (up_to_date_to_read z s q i) (up_to_date_to_read z s q i)) (up_to_date_to_read z s q i) (λ c. serves-it c c) (λ c. is-behind c c)
+      cond-elim (Judged (up_to_date_to_read z s q i) (up_to_date_to_read z s q i)) (up_to_date_to_read z s q i) (λ c. serves_it c c) (λ c. is_behind c c)
 
   write-judged : (i : ℕ) → Judged (up_to_date_to_write z s q i) (may_write_to z s q i) (write_verdict z s q i)
   unfolding write_verdict may_write_to
   write-judged i =
       cond-elim (Judged (up_to_date_to_write z s q i) (up_to_date_to_write z s q i && has_room z s i)) (up_to_date_to_write z s q i) (λ c.
-      cond-elim (Judged (up_to_date_to_write z s q i) (up_to_date_to_write z s q i && has_room z s i)) (has_room z s i) (λ r. serves-it c (and_both _ _ c r))
-      (λ r. is-full c (ap₂ (λ a b. a && b) c r))) (λ c. is-behind c (ap (λ a. a && has_room z s i) c))
+      cond-elim (Judged (up_to_date_to_write z s q i) (up_to_date_to_write z s q i && has_room z s i)) (has_room z s i) (λ r. serves_it c (and_both _ _ c r))
+      (λ r. is_full c (ap₂ (λ a b. a && b) c r))) (λ c. is_behind c (ap (λ a. a && has_room z s i) c))
 
   judged-to : (writing : Bool) (i : ℕ) → Judged (up_to_date_to writing z s q i) (serves writing z s q i) (verdict_to writing z s q i)
   unfolding up_to_date_to serves verdict_to
@@ -77,7 +77,7 @@ module _ (z : Size) (s : State) (q : Session) (reach : ℕ) where
   -- A server that is out of reach is neither.
   judged-reach : (a : Bool) {c p : Bool} {v : ℕ} → Judged c p v → Judged (a && c) (a && p) (cond a v 6)
   judged-reach true j = j
-  judged-reach false j = is-behind refl refl
+  judged-reach false j = is_behind refl refl
 
   verdict-judged : (writing : Bool) (i : ℕ) → Judged (reaches reach i && up_to_date_to writing z s q i) (reaches reach i && serves writing z s q i) (verdict writing z s q reach i)
   unfolding verdict

@@ -7,9 +7,9 @@ use Rattle.choice.specs.Outcome.{Valued}
 
 -- A verdict on a server, by whether it is up to date and whether it serves.
 pub data Judged (up_to_date serving : Bool) : ℕ → Type 0 where
-  serves-it : up_to_date ≡ true → serving ≡ true → Judged up_to_date serving 0
-  is-full : up_to_date ≡ true → serving ≡ false → Judged up_to_date serving 7
-  is-behind : up_to_date ≡ false → serving ≡ false → Judged up_to_date serving 6
+  serves_it : up_to_date ≡ true → serving ≡ true → Judged up_to_date serving 0
+  is_full : up_to_date ≡ true → serving ≡ false → Judged up_to_date serving 7
+  is_behind : up_to_date ≡ false → serving ≡ false → Judged up_to_date serving 6
 
 -- The code and the server of an answer.
 abbrev pub answered : Answer → Valued

@@ -35,4 +35,4 @@ served-by-the-book {out'} {count} served room z xs input is spelled short few =
 pub answered-by-the-book : {input : List ℕ} {before after : Option (List ℕ)} → Answered input before after → (z : Size) (xs : List Step) → Script z xs input
     → length input ≤ most_bytes → length xs ≤ most_steps → Appends before after (answer_lines (book_answers z blank xs))
 answered-by-the-book {input} {before} {after} said z xs spelled short few =
-    subst (Appends before after) (printed-by-the-book z xs input said.bytes spelled short few said.is-reply) said.written
+    subst (Appends before after) (printed-by-the-book z xs input said.bytes spelled short few said.is_reply) said.written

@@ -22,5 +22,5 @@ pub record WorkPromise (read code count : ℕ) : Type 0 where
 -- The reply to the whole input stands behind what the output held before, and nothing else.
 pub record Answered (input : List ℕ) (before after : Option (List ℕ)) : Type 0 where
   pub bytes : List ℕ
-  pub is-reply : Reply input bytes
+  pub is_reply : Reply input bytes
   pub written : Appends before after bytes

@@ -19,7 +19,7 @@ Held z t = Means z (decode z t) t
 
 -- An answer and a table's words are those of an outcome.
 pub record Comes (z : Size) (o : Outcome) (r : rules.Answer) (left : List ℕ) : Type 0 where
-  pub answer-is : r ≡ o.answer
+  pub answer_is : r ≡ o.answer
   pub table_is : left ≡ encode z o.state
 
 -- What is asked of the table is done as the rules say.

@@ -50,7 +50,7 @@ module _ (text : List ℕ) (from count : ℕ) (words : List ℕ) where
     unfolding chain
     filling-on l fits {value = value} {next = next} e found =
         let o = read_fields (count - (i + 1)) (drop next text) in
-        let is : some (record { value = value; rest = drop next text }) ≡ read_field (drop at text) = ap (number_in text) (sym e) ∙ found.found-is in
+        let is : some (record { value = value; rest = drop next text }) ≡ read_field (drop at text) = ap (number_in text) (sym e) ∙ found.found_is in
         let front : take (i + 1) (set left i value) ≡ take i left ++ (value ∷ []) = ap (λ k. take k (set left i value)) (add-one i) ∙ take-suc-set left i value fits in
         record {
           so_far =
@@ -66,8 +66,8 @@ module _ (text : List ℕ) (from count : ℕ) (words : List ℕ) where
     unfolding joined chain
     filling-fails l e found =
         record {
-          found-is =
-              ap (joined (take i left)) (sym (next_field l ∙ ap (λ f. chain f (λ x rest. prepend x (read_fields (count - (i + 1)) rest))) (sym (ap (number_in text) (sym e) ∙ found.found-is))))
+          found_is =
+              ap (joined (take i left)) (sym (next_field l ∙ ap (λ f. chain f (λ x rest. prepend x (read_fields (count - (i + 1)) rest))) (sym (ap (number_in text) (sym e) ∙ found.found_is))))
               ∙ so.so_far;
           within = tt;
           kept = so.kept;
@@ -85,7 +85,7 @@ module _ (text : List ℕ) (from count : ℕ) (words : List ℕ) where
         let ended : read_fields 0 (drop at text) ≡ some (record { value = []; rest = drop (at + 1) text })
         = cond-true (begins 10 (drop at text)) _ _ (sym is ∙ t) ∙ ap (λ bs. some (record { value = []; rest = bs })) (drop-drop 1 at text) in
         record {
-          found-is =
+          found_is =
               ap (λ k. some (record { value = take k left; rest = drop (at + 1) text })) (sym e)
               ∙ (ap (λ vs. some (record { value = vs; rest = drop (at + 1) text })) (sym (append-nil (take i left)))
               ∙ (ap (joined (take i left)) (sym (all_there e ∙ ended))
@@ -98,7 +98,7 @@ module _ (text : List ℕ) (from count : ℕ) (words : List ℕ) where
     unfolding joined read_fields
     filling-unended e is f =
         record {
-          found-is = ap (joined (take i left)) (sym (all_there e ∙ cond-false (begins 10 (drop at text)) _ _ (sym is ∙ f))) ∙ so.so_far;
+          found_is = ap (joined (take i left)) (sym (all_there e ∙ cond-false (begins 10 (drop at text)) _ _ (sym is ∙ f))) ∙ so.so_far;
           within = tt;
           kept = so.kept;
         }

@@ -16,7 +16,7 @@ none-some {a = a} h = absurd (none-ne-some a h)
 pub chained : {A B : Type 0} (first : Option (Got A)) (next : A → List ℕ → Option (Got B)) (g : Got B) → chain first next ≡ some g → Chained first next g
 unfolding chain
 chained none next g h = none-some h
-chained (some f) next g h = record { found = f; first-is = refl; next-is = h }
+chained (some f) next g h = record { found = f; first_is = refl; next_is = h }
 
 -- A text that begins with a byte is that byte and the others.
 pub begins-is : (byte : ℕ) (bs : List ℕ) → begins byte bs ≡ true → bs ≡ byte ∷ drop 1 bs

@@ -41,10 +41,10 @@ module _ (text : List ℕ) (from count n : ℕ) (left : List ℕ) {r : Place} (f
   others-zero = ap zeros found.kept ∙ zeros-drop count (replicate n 0) (replicate-zeros n)
 
   pub fields-found : {next : ℕ} → r ≡ place.At next → some (record { value = take count left; rest = drop next text }) ≡ read_fields count (drop from text)
-  fields-found e = ap (fields_in text (take count left)) (sym e) ∙ found.found-is
+  fields-found e = ap (fields_in text (take count left)) (sym e) ∙ found.found_is
 
   pub fields-lost : r ≡ place.Bad → none ≡ read_fields count (drop from text)
-  fields-lost e = ap (fields_in text (take count left)) (sym e) ∙ found.found-is
+  fields-lost e = ap (fields_in text (take count left)) (sym e) ∙ found.found_is
 
   fields_within : {next : ℕ} → r ≡ place.At next → next ≤ length text
   fields_within e = subst (PlaceWithin text) e found.within
@@ -68,7 +68,7 @@ module _ (text : List ℕ) (from count n : ℕ) (left : List ℕ) {r : Place} (f
   unfolding read_arguments step_with
   arguments-found kind k {next} e =
       record {
-        found-is =
+        found_is =
             (λ i. some (record { value = record { kind = kind; a = sym (word 0) i; b = sym (word 1) i; c = sym (word 2) i; d = sym (word 3) i }; rest = drop next text }))
             ∙ (line-found (step_with kind) e ∙ ap (λ m. chain (read_fields m (drop from text)) (λ xs rest. some (record { value = step_with kind xs; rest = rest }))) k);
         within = fields_within e;
@@ -78,7 +78,7 @@ module _ (text : List ℕ) (from count n : ℕ) (left : List ℕ) {r : Place} (f
   unfolding read_arguments
   arguments-lost kind k e =
       record {
-        found-is = line-lost (step_with kind) e ∙ ap (λ m. chain (read_fields m (drop from text)) (λ xs rest. some (record { value = step_with kind xs; rest = rest }))) k;
+        found_is = line-lost (step_with kind) e ∙ ap (λ m. chain (read_fields m (drop from text)) (λ xs rest. some (record { value = step_with kind xs; rest = rest }))) k;
         within = tt;
       }
 
@@ -91,7 +91,7 @@ module _ (text : List ℕ) (from n : ℕ) (left : List ℕ) {r : Place} (found :
   unfolding read_sizes_behind step_with
   sizes-found {next} e =
       record {
-        found-is =
+        found_is =
             (λ i. some (record { value = record { kind = 0; a = n; b = sym (word text from 2 2 left found 0) i; c = sym (word text from 2 2 left found 1) i; d = sym third i }; rest = drop next text }))
             ∙ line-found text from 2 2 left found (λ xs. step_with 0 (n ∷ xs)) e;
         within = fields_within text from 2 2 left found e;
@@ -99,18 +99,18 @@ module _ (text : List ℕ) (from n : ℕ) (left : List ℕ) {r : Place} (found :
 
   pub sizes-lost : r ≡ place.Bad → LinePromise text (read_sizes_behind n (drop from text)) line.Bad
   unfolding read_sizes_behind
-  sizes-lost e = record { found-is = line-lost text from 2 2 left found (λ xs. step_with 0 (n ∷ xs)) e; within = tt }
+  sizes-lost e = record { found_is = line-lost text from 2 2 left found (λ xs. step_with 0 (n ∷ xs)) e; within = tt }
 
 -- ---- from a line's first byte or number to the line
 
 module _ (text : List ℕ) {r : Number} (found : NumberPromise text (read_number text) r) where
   pub sizes-behind : {n next : ℕ} → r ≡ number.Good n next → read_sizes_behind n (drop next text) ≡ read_sizes text
   unfolding read_sizes chain
-  sizes-behind e = ap (λ o. chain o read_sizes_behind) (ap (number_in text) (sym e) ∙ found.found-is)
+  sizes-behind e = ap (λ o. chain o read_sizes_behind) (ap (number_in text) (sym e) ∙ found.found_is)
 
   pub sizes-none : r ≡ number.Bad → none ≡ read_sizes text
   unfolding read_sizes chain
-  sizes-none e = ap (λ o. chain o read_sizes_behind) (ap (number_in text) (sym e) ∙ found.found-is)
+  sizes-none e = ap (λ o. chain o read_sizes_behind) (ap (number_in text) (sym e) ∙ found.found_is)
 
 module _ (text : List ℕ) (at : ℕ) where
   pub step-nothing : length text ≤ at → none ≡ read_step (drop at text)
@@ -149,11 +149,11 @@ same_line text line.Bad (line.Good kind a b c d next) e w w' = absurd (none-ne-s
 same_line text line.Bad line.Bad e w w' = refl
 
 pub line-settled : (text : List ℕ) {found : Option (Got Step)} (r s : Line) → LinePromise text found r → LinePromise text found s → r ≡ s
-line-settled text r s p q = same_line text r s (p.found-is ∙ sym q.found-is) p.within q.within
+line-settled text r s p q = same_line text r s (p.found_is ∙ sym q.found_is) p.within q.within
 
 -- So the promise of a reader's step settles the line and the reader.
 pub next-settled : (before : Reader) {l l' : Line} {after after' : Reader} → NextPromise before l after → NextPromise before l' after' → (l ≡ l') × (after ≡ after')
 next-settled before {l} {l'} {after} p q =
-    let e = line-settled before.text.now l l' p.line-is q.line-is in
+    let e = line-settled before.text.now l l' p.line_is q.line_is in
     let same : NextPromise before l' after = subst (λ (x : Line). NextPromise before x after) e p in
-    (e, same.moved-is ∙ sym q.moved-is)
+    (e, same.moved_is ∙ sym q.moved_is)

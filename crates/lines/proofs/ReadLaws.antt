@@ -11,7 +11,7 @@ use Rattle.lines.specs.Read.{Got, chain, begins, is_digit, read_number, read_fie
 use Rattle.lines.proofs.GotLaws.{some_is, none-some, chained, begins-is}
 use Rattle.lines.specs.DigitLaws.{NoDigit, other}
 use Rattle.lines.proofs.DigitLaws.{number_read, read-number}
-use Rattle.lines.specs.ReadLaws.{AllFit, FieldSaid, FieldsSaid, StepSaid, fit-more, fit_none}
+use Rattle.lines.specs.ReadLaws.{AllFit, FieldSaid, FieldsSaid, StepSaid, fit_more, fit_none}
 
 -- ---- fields
 
@@ -25,7 +25,7 @@ fields-no-digit (x ∷ xs) rest = other refl
 pub fields_read : {k : ℕ} {xs : List ℕ} → AllFit k xs → (rest : List ℕ) → read_fields k (fields xs ++ rest) ≡ some (record { value = xs; rest = rest })
 unfolding fields read_fields begins read_field chain prepend
 fields_read fit_none rest = refl
-fields_read (fit-more {k = k} {x = x} {xs = xs} h hs) rest =
+fields_read (fit_more {k = k} {x = x} {xs = xs} h hs) rest =
     ap (λ t. chain (read_number t) (λ y behind. prepend y (read_fields k behind))) (append_assoc (decimal x) (fields xs) rest)
     ∙ (ap (λ o. chain o (λ y behind. prepend y (read_fields k behind))) (number_read x h (fields-no-digit xs rest))
     ∙ ap (prepend x) (fields_read hs rest))
@@ -50,7 +50,7 @@ fields-said : {k : ℕ} {bs : List ℕ} (g : Got ℕ) (os : Got (List ℕ)) → 
 unfolding fields
 fields-said g os one others = (
   one.0 ∙ ap (λ t. 32 ∷ t) (ap (λ t. decimal g.value ++ t) others.0 ∙ sym (append_assoc (decimal g.value) (fields os.value) os.rest)),
-  fit-more one.1 others.1,
+  fit_more one.1 others.1,
 )
 
 -- What is read as so many numbers is their spelling.
@@ -62,32 +62,32 @@ read-fields zero bs g =
 read-fields (suc k) bs g = λ h.
     let c = chained (read_field bs) _ g h in
     let behind = read_fields k c.found.rest in
-    let d = chained behind _ g (sym (prepend-chain c.found.value behind) ∙ c.next-is) in
+    let d = chained behind _ g (sym (prepend-chain c.found.value behind) ∙ c.next_is) in
     some_is (FieldsSaid (suc k) bs)
-    (fields-said c.found d.found (read-field bs c.found c.first-is) (read-fields k c.found.rest d.found d.first-is)) d.next-is
+    (fields-said c.found d.found (read-field bs c.found c.first_is) (read-fields k c.found.rest d.found d.first_is)) d.next_is
 
 -- ---- a step's line
 
 -- As many arguments as a kind has make a step of it.
 opens-fit : (xs : List ℕ) → AllFit 2 xs → StepLine (step_with 1 xs) (111 ∷ fields xs)
 unfolding step_with
-opens-fit xs (fit-more h (fit-more i fit_none)) = opens _ _ h i
+opens-fit xs (fit_more h (fit_more i fit_none)) = opens _ _ h i
 
 closes-fit : (xs : List ℕ) → AllFit 1 xs → StepLine (step_with 2 xs) (99 ∷ fields xs)
 unfolding step_with
-closes-fit xs (fit-more h fit_none) = closes _ h
+closes-fit xs (fit_more h fit_none) = closes _ h
 
 reads_fit : (xs : List ℕ) → AllFit 3 xs → StepLine (step_with 3 xs) (114 ∷ fields xs)
 unfolding step_with
-reads_fit xs (fit-more h (fit-more i (fit-more j fit_none))) = reads _ _ _ h i j
+reads_fit xs (fit_more h (fit_more i (fit_more j fit_none))) = reads _ _ _ h i j
 
 writes-fit : (xs : List ℕ) → AllFit 4 xs → StepLine (step_with 4 xs) (119 ∷ fields xs)
 unfolding step_with
-writes-fit xs (fit-more h (fit-more i (fit-more j (fit-more k fit_none)))) = writes _ _ _ _ h i j k
+writes-fit xs (fit_more h (fit_more i (fit_more j (fit_more k fit_none)))) = writes _ _ _ _ h i j k
 
 exchanges-fit : (xs : List ℕ) → AllFit 3 xs → StepLine (step_with 5 xs) (120 ∷ fields xs)
 unfolding step_with
-exchanges-fit xs (fit-more h (fit-more i (fit-more j fit_none))) = exchanges _ _ _ h i j
+exchanges-fit xs (fit_more h (fit_more i (fit_more j fit_none))) = exchanges _ _ _ h i j
 
 -- By cases on a letter and its kind.
 kind_of-elim : (P : ℕ → ℕ → Type 0) → P 111 1 → P 99 2 → P 114 3 → P 119 4 → P 120 5 → ((b : ℕ) → P b 0) → (b : ℕ) → P b (kind_of b)
@@ -108,9 +108,9 @@ arguments-said : (kind : ℕ) {letter : ℕ} → ((xs : List ℕ) → AllFit (co
 unfolding read_arguments
 arguments-said kind {letter} spelling bs g h =
     let c = chained (read_fields (count_of kind) bs) _ g h in
-    let so = read-fields (count_of kind) bs c.found c.first-is in
+    let so = read-fields (count_of kind) bs c.found c.first_is in
     some_is (λ (r : Got Step). StepSaid (letter ∷ bs) r.value r.rest)
-    (record { line = letter ∷ fields c.found.value; spells = spelling c.found.value so.1; is = ap (λ t. letter ∷ t) so.0 }) c.next-is
+    (record { line = letter ∷ fields c.found.value; spells = spelling c.found.value so.1; is = ap (λ t. letter ∷ t) so.0 }) c.next_is
 
 pub read-step : (bs : List ℕ) (g : Got Step) → read_step bs ≡ some g → StepSaid bs g.value g.rest
 unfolding read_step count_of
@@ -127,30 +127,30 @@ arguments-read kind fit rest = ap (λ o. chain o (λ xs behind. some (record { v
 
 pub step-read : {x : Step} {line : List ℕ} → StepLine x line → (rest : List ℕ) → read_step (line ++ rest) ≡ some (record { value = x; rest = rest })
 unfolding read_step kind_of count_of step_with
-step-read (opens s g h i) rest = arguments-read 1 (fit-more h (fit-more i fit_none)) rest
-step-read (closes s h) rest = arguments-read 2 (fit-more h fit_none) rest
-step-read (reads s a b h i j) rest = arguments-read 3 (fit-more h (fit-more i (fit-more j fit_none))) rest
-step-read (writes s a b c h i j k) rest = arguments-read 4 (fit-more h (fit-more i (fit-more j (fit-more k fit_none)))) rest
-step-read (exchanges s a b h i j) rest = arguments-read 5 (fit-more h (fit-more i (fit-more j fit_none))) rest
+step-read (opens s g h i) rest = arguments-read 1 (fit_more h (fit_more i fit_none)) rest
+step-read (closes s h) rest = arguments-read 2 (fit_more h fit_none) rest
+step-read (reads s a b h i j) rest = arguments-read 3 (fit_more h (fit_more i (fit_more j fit_none))) rest
+step-read (writes s a b c h i j k) rest = arguments-read 4 (fit_more h (fit_more i (fit_more j (fit_more k fit_none)))) rest
+step-read (exchanges s a b h i j) rest = arguments-read 5 (fit_more h (fit_more i (fit_more j fit_none))) rest
 
 -- ---- the first line
 
 -- What is read as sizes is their spelling.
 sizes-fit : (n : ℕ) {xs : List ℕ} → AllFit 2 xs → size_line (record { n = (step_with 0 (n ∷ xs)).a; l = (step_with 0 (n ∷ xs)).b; p = (step_with 0 (n ∷ xs)).c }) ≡ decimal n ++ fields xs
 unfolding step_with size_line numbers
-sizes-fit n (fit-more h (fit-more i fit_none)) = refl
+sizes-fit n (fit_more h (fit_more i fit_none)) = refl
 
 pub read-sizes : (bs : List ℕ) (g : Got Step) → read_sizes bs ≡ some g → bs ≡ size_line (record { n = g.value.a; l = g.value.b; p = g.value.c }) ++ g.rest
 unfolding read_sizes read_sizes_behind
 read-sizes bs g h =
     let c = chained (read_number bs) read_sizes_behind g h in
     let n = c.found.value in
-    let d = chained (read_fields 2 c.found.rest) _ g c.next-is in
-    let first = read-number bs c.found c.first-is in
-    let others = read-fields 2 c.found.rest d.found d.first-is in
+    let d = chained (read_fields 2 c.found.rest) _ g c.next_is in
+    let first = read-number bs c.found c.first_is in
+    let others = read-fields 2 c.found.rest d.found d.first_is in
     some_is (λ (r : Got Step). bs ≡ size_line (record { n = r.value.a; l = r.value.b; p = r.value.c }) ++ r.rest)
     (first.0 ∙ (ap (λ t. decimal n ++ t) others.0 ∙ (sym (append_assoc (decimal n) (fields d.found.value) d.found.rest) ∙ ap (λ t. t ++ d.found.rest) (sym (sizes-fit n others.1)))))
-    d.next-is
+    d.next_is
 
 -- The spelling of sizes is read.
 pub sizes-read : (z : Size) → Fits z.n → Fits z.l → Fits z.p → (rest : List ℕ)
@@ -160,7 +160,7 @@ sizes-read z h i j rest =
     let xs = z.l ∷ z.p ∷ [] in
     ap (λ t. chain (read_number t) read_sizes_behind) (append_assoc (decimal z.n) (fields xs) rest)
     ∙ (ap (λ o. chain o read_sizes_behind) (number_read z.n h (fields-no-digit xs rest))
-    ∙ ap (λ o. chain o (λ ys behind. some (record { value = step_with 0 (z.n ∷ ys); rest = behind }))) (fields_read (fit-more i (fit-more j fit_none)) rest))
+    ∙ ap (λ o. chain o (λ ys behind. some (record { value = step_with 0 (z.n ∷ ys); rest = behind }))) (fields_read (fit_more i (fit_more j fit_none)) rest))
 
 -- ---- behind a line there is less text
 

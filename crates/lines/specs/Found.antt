@@ -23,7 +23,7 @@ NumberWithin text number.Bad = Unit {0}
 
 -- The promise of what reads a number.
 pub record NumberPromise (text : List ℕ) (found : Option (Got ℕ)) (r : Number) : Type 0 where
-  pub found-is : number_in text r ≡ found
+  pub found_is : number_in text r ≡ found
   pub within : NumberWithin text r
 
 -- The numbers that were put in words and the text behind their line, or none.
@@ -37,7 +37,7 @@ PlaceWithin text place.Bad = Unit {0}
 
 -- The promise of what reads so many numbers into words: those behind are as they were.
 pub record FieldsPromise (text : List ℕ) (at count : ℕ) (words : List ℕ) (r : Place) (left : List ℕ) : Type 0 where
-  pub found-is : fields_in text (take count left) r ≡ read_fields count (drop at text)
+  pub found_is : fields_in text (take count left) r ≡ read_fields count (drop at text)
   pub within : PlaceWithin text r
   pub kept : drop count left ≡ drop count words
 
@@ -52,13 +52,13 @@ LineWithin text line.Bad = Unit {0}
 
 -- The promise of what reads a line.
 pub record LinePromise (text : List ℕ) (found : Option (Got Step)) (r : Line) : Type 0 where
-  pub found-is : line_in text r ≡ found
+  pub found_is : line_in text r ≡ found
   pub within : LineWithin text r
 
 -- The promise of what makes a reader: it holds the text and stands at the place.
 pub record NewPromise (text : Bor (List ℕ)) (at : ℕ) (r : Reader) : Type 0 where
-  pub text-is : r.text ≡ text
-  pub at-is : r.at ≡ at
+  pub text_is : r.text ≡ text
+  pub at_is : r.at ≡ at
 
 -- Where a reader stands once it has read a line: behind it, or where it stood if the line is bad.
 abbrev pub place_behind : Line → ℕ → ℕ
@@ -71,5 +71,5 @@ moved_behind l r = record { text = r.text; at = place_behind l r.at }
 
 -- The promise of a reader's step: the line is the one where the reader stood, and the reader has moved behind it.
 pub record NextPromise (before : Reader) (l : Line) (after : Reader) : Type 0 where
-  pub line-is : LinePromise before.text.now (read_line before.text.now before.at) l
-  pub moved-is : after ≡ moved_behind l before
+  pub line_is : LinePromise before.text.now (read_line before.text.now before.at) l
+  pub moved_is : after ≡ moved_behind l before

@@ -6,5 +6,5 @@ use Rattle.lines.specs.Read.{Got}
 -- Two readings one after the other found something if both did.
 pub record Chained {A B : Type 0} (first : Option (Got A)) (next : A → List ℕ → Option (Got B)) (g : Got B) : Type 0 where
   pub found : Got A
-  pub first-is : first ≡ some found
-  pub next-is : next found.value found.rest ≡ some g
+  pub first_is : first ≡ some found
+  pub next_is : next found.value found.rest ≡ some g

@@ -8,7 +8,7 @@ use Rattle.lines.specs.Read.{Got}
 -- So many numbers, each of which a line can say.
 pub data AllFit : ℕ → List ℕ → Type 0 where
   fit_none : AllFit zero []
-  fit-more : {k x : ℕ} {xs : List ℕ} → Fits x → AllFit k xs → AllFit (suc k) (x ∷ xs)
+  fit_more : {k x : ℕ} {xs : List ℕ} → Fits x → AllFit k xs → AllFit (suc k) (x ∷ xs)
 
 -- What the reading of a field found, and that of so many.
 abbrev pub FieldSaid : List ℕ → Got ℕ → Type 0

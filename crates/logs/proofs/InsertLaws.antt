@@ -9,16 +9,16 @@ use Rattle.logs.specs.Write.{Write, before}
 use Rattle.logs.proofs.WriteLaws.{before-trans, not-before-back, not-before-trans}
 use Rattle.logs.specs.Log.{insert, insert_all}
 use Rattle.logs.proofs.LogLaws.{in-insert_all}
-use Rattle.logs.specs.Ascending.{Ascending, ascending-nil, ascending-cons}
+use Rattle.logs.specs.Ascending.{Ascending, ascending_nil, ascending_cons}
 use Rattle.logs.proofs.AscendingLaws.{ascending-head, ascending-tail}
 
 -- ---- the last write of a log in order
 
 -- The first part of a log in order is in order.
 pub ascending-front : (g rest : List Write) → Ascending (g ++ rest) → Ascending g
-ascending-front [] rest a = ascending-nil
+ascending-front [] rest a = ascending_nil
 ascending-front (y ∷ ys) rest a =
-    ascending-cons (λ x m. ascending-head a x (in_append_left rest m)) (ascending-front ys rest (ascending-tail a))
+    ascending_cons (λ x m. ascending-head a x (in_append_left rest m)) (ascending-front ys rest (ascending-tail a))
 
 -- All others are before the last.
 pub ascending-last : (g : List Write) (w : Write) → Ascending (g ++ (w ∷ [])) → (x : Write) → In x g → before x w ≡ true

@@ -10,7 +10,7 @@ use Rattle.logs.specs.Write.{Write, before}
 use Rattle.logs.specs.WriteLaws.{SameKey}
 use Rattle.logs.proofs.WriteLaws.{before-trans, before-total, before-asym, before-clock-le, before-not-key}
 use Rattle.logs.specs.Log.{insert, insert_all, last_on, lacking, follow}
-use Rattle.logs.specs.Ascending.{Ascending, ascending-nil, ascending-cons}
+use Rattle.logs.specs.Ascending.{Ascending, ascending_nil, ascending_cons}
 use Rattle.logs.proofs.AscendingLaws.{ascending-head, ascending-tail, keep-ascending}
 use Rattle.logs.specs.Witness.{Witness, LastOn}
 
@@ -44,11 +44,11 @@ length-insert w (y ∷ ys) =
 -- A write whose identifier the log does not have keeps it in order.
 pub insert-ascending : (w : Write) {g : List Write} → Ascending g → ((x : Write) → In x g → SameKey w x → ⊥) → Ascending (insert w g)
 unfolding insert
-insert-ascending w ascending-nil new = ascending-cons (λ x h. in-nil h) ascending-nil
-insert-ascending w (ascending-cons {w = y} {ws = ys} head rest) new =
-    cond-elim (λ (l : List Write). Ascending l) (before w y) (λ e. ascending-cons
+insert-ascending w ascending_nil new = ascending_cons (λ x h. in-nil h) ascending_nil
+insert-ascending w (ascending_cons {w = y} {ws = ys} head rest) new =
+    cond-elim (λ (l : List Write). Ascending l) (before w y) (λ e. ascending_cons
     (λ x h. ⊎_elim (λ q. subst (λ (v : Write). before w v ≡ true) (sym q) e) (λ m. before-trans w y x e (head x m)) (in-cons h))
-    (ascending-cons head rest)) (λ e. ascending-cons
+    (ascending_cons head rest)) (λ e. ascending_cons
     (λ x h. ⊎_elim (λ q. subst (λ (v : Write). before y v ≡ true) (sym q) (after e)) (λ m. head x m) (in_insert w ys h))
     (insert-ascending w rest (λ x h. new x (there h))))
   where
@@ -93,16 +93,16 @@ insert_all-ascending (w ∷ ws) {g} p q new =
 -- ---- the first of a log in order
 
 pub take-ascending : (k : ℕ) {g : List Write} → Ascending g → Ascending (take k g)
-take-ascending zero a = ascending-nil
-take-ascending (suc k) ascending-nil = ascending-nil
-take-ascending (suc k) (ascending-cons {w = w} {ws = ws} head rest) =
-    ascending-cons (λ x h. head x (in_take k ws h)) (take-ascending k rest)
+take-ascending zero a = ascending_nil
+take-ascending (suc k) ascending_nil = ascending_nil
+take-ascending (suc k) (ascending_cons {w = w} {ws = ws} head rest) =
+    ascending_cons (λ x h. head x (in_take k ws h)) (take-ascending k rest)
 
 -- C2: what stands before one of the first k is among the first k.
 pub take-before : (k : ℕ) {g : List Write} → Ascending g → (w x : Write) → In w (take k g) → In x g → before x w ≡ true → In x (take k g)
 take-before zero a w x h m b = in-nil h
-take-before (suc k) ascending-nil w x h m b = in-nil m
-take-before (suc k) (ascending-cons {w = y} {ws = ys} head rest) w x h m b =
+take-before (suc k) ascending_nil w x h m b = in-nil m
+take-before (suc k) (ascending_cons {w = y} {ws = ys} head rest) w x h m b =
     ⊎_elim (λ q. here q) (λ m'. there (⊎_elim (λ q. before-asym y x (head x m') (subst (λ (v : Write). before x v ≡ true) q b))
     (λ h'. take-before k rest w x h' m' b) (in-cons h))) (in-cons m)
 
@@ -127,10 +127,10 @@ last_on-none item (w ∷ ws) e x h i = go (last_on item ws) (λ q m. last_on-non
 
 pub last_on-some : (item : ℕ) {g : List Write} → Ascending g → (w : Write) → last_on item g ≡ some w → LastOn item g w
 unfolding last_on or_else
-last_on-some item ascending-nil w e =
+last_on-some item ascending_nil w e =
     let y : ◌≡◌ {A = ℕ} 0 1 = cc in
     absurd (omega arith)
-last_on-some item (ascending-cons {w = v} {ws = vs} head rest) w e =
+last_on-some item (ascending_cons {w = v} {ws = vs} head rest) w e =
     go (last_on item vs) (λ q. last_on-none item vs q) (λ q. last_on-some item rest w q) e
   where
     hit : (cond (eqb v.item item) (some v) none) ≡ some w → (v.item ≡ item) × (v ≡ w)
@@ -202,8 +202,8 @@ follow-base ws v a h j =
 -- A component is at least the clock of each write of its origin that went over in write order.
 pub follow-above : {ws : List Write} (v : ℕ → ℕ) → Ascending ws → (w : Write) → In w ws → w.clock ≤ follow ws v w.origin
 unfolding follow
-follow-above v ascending-nil w h = in-nil h
-follow-above v (ascending-cons {w = y} {ws = ys} head rest) w h =
+follow-above v ascending_nil w h = in-nil h
+follow-above v (ascending_cons {w = y} {ws = ys} head rest) w h =
     ⊎_elim (λ q. ⊎_elim (λ e. omega (arith, e, upd_same v y.origin y.clock w.origin (ap (λ u. u.origin) q), ap (λ u. u.clock) q))
     (λ f. omega (arith, f.timed, before-clock-le y f.write (head f.write f.stored), ap (λ u. u.clock) q))
     (follow-either ys (upd v y.origin y.clock) w.origin)) (λ m. follow-above (upd v y.origin y.clock) rest w m) (in-cons h)

@@ -27,9 +27,9 @@ unfolding of_origin
 in-origin j g m = in-keep _ g m
 
 -- They are of that origin.
-pub origin-is : (j : ℕ) (g : List Write) {w : Write} → In w (of_origin j g) → w.origin ≡ j
+pub origin_is : (j : ℕ) (g : List Write) {w : Write} → In w (of_origin j g) → w.origin ≡ j
 unfolding of_origin
-origin-is j g {w} m = eqb-true w.origin j (keep-passes (λ v. eqb v.origin j) g m)
+origin_is j g {w} m = eqb-true w.origin j (keep-passes (λ v. eqb v.origin j) g m)
 
 -- No clock is greater than the greatest.
 pub clock-greatest : (w : Write) {g : List Write} → In w g → w.clock ≤ greatest_clock g
@@ -57,7 +57,7 @@ pub greatest-attained : (j : ℕ) (g : List Write) → (greatest_of j g ≡ 0) �
 unfolding greatest_of
 greatest-attained j g =
     ⊎_elim (λ e. inl e) (λ (t : Timed (of_origin j g) (greatest_clock (of_origin j g))).
-    inr (record { write = t.write; stored = in-origin j g t.stored; from = origin-is j g t.stored; timed = t.timed }))
+    inr (record { write = t.write; stored = in-origin j g t.stored; from = origin_is j g t.stored; timed = t.timed }))
     (greatest-timed (of_origin j g))
 
 -- It is the only such number.
@@ -108,9 +108,9 @@ pub true-agrees : (j c : ℕ) {g home : List Write} → Ascending g → Ascendin
 unfolding agrees up_to of_origin
 true-agrees j c {g} {home} a b h =
     eq-same_all _ _ (ascending-ext (keep-ascending _ a) (keep-ascending _ (keep-ascending _ b))
-    (λ w m. let o : w.origin ≡ j = origin-is j g m in
+    (λ w m. let o : w.origin ≡ j = origin_is j g m in
     let m' : In w g = in-origin j g m in
     keep-in _ (origin-in j (h.homed w m' o) o) (le-leb w.clock c (h.bounded w m' o)))
     (λ w m. let m' : In w (of_origin j home) = in-keep _ (of_origin j home) m in
-    let o : w.origin ≡ j = origin-is j home m' in
+    let o : w.origin ≡ j = origin_is j home m' in
     origin-in j (h.complete w (in-origin j home m') o (leb-true w.clock c (keep-passes (λ v. leb v.clock c) (of_origin j home) m))) o))

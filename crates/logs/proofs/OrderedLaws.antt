@@ -12,7 +12,7 @@ use Rattle.words.specs.CaseLaws.{lt-or-le, each}
 use Rattle.words.specs.TestLaws.{and_left, and_right, and_both, or_cases, or_left, or_right}
 use Rattle.logs.specs.Write.{Write, before}
 use Rattle.logs.proofs.WriteLaws.{before-clock-le, before-trans}
-use Rattle.logs.specs.Ascending.{Ascending, ascending-nil, ascending-cons}
+use Rattle.logs.specs.Ascending.{Ascending, ascending_nil, ascending_cons}
 use Rattle.logs.proofs.AscendingLaws.{ascending-head, ascending-tail}
 use Rattle.logs.specs.Witness.{Timed}
 use Rattle.logs.specs.LogTests.{in_range, goes_on, ordered}
@@ -51,13 +51,13 @@ module _ (n items : ℕ) where
   -- No write.
   pub ordered-nil : (least : ℕ) → Ordered least n items []
   ordered-nil least =
-      record { ascending = ascending-nil; origins = λ w m. in-nil m; items_fit = λ w m. in-nil m; started = λ w m. in-nil m; gapless = λ w m. in-nil m }
+      record { ascending = ascending_nil; origins = λ w m. in-nil m; items_fit = λ w m. in-nil m; started = λ w m. in-nil m; gapless = λ w m. in-nil m }
 
   -- One write.
   pub ordered-one : (w : Write) → in_range n items w ≡ true → Ordered w.clock n items (w ∷ [])
   ordered-one w r =
       record {
-        ascending = ascending-cons (λ x m. in-nil m) ascending-nil;
+        ascending = ascending_cons (λ x m. in-nil m) ascending_nil;
         origins = λ x m. omega (arith, ap (λ v. v.origin) (in_one m), range-origin w r);
         items_fit = λ x m. omega (arith, ap (λ v. v.item) (in_one m), range-item w r);
         started = λ x m. omega (arith, ap (λ v. v.clock) (in_one m));
@@ -69,7 +69,7 @@ module _ (n items : ℕ) where
   ordered-more w x xs r b step o =
       record {
         ascending =
-            ascending-cons (each (λ y. before w y ≡ true) b (λ y m. before-trans w x y b (ascending-head o.ascending y m)))
+            ascending_cons (each (λ y. before w y ≡ true) b (λ y m. before-trans w x y b (ascending-head o.ascending y m)))
             o.ascending;
         origins = each (λ y. y.origin < n) (range-origin w r) o.origins;
         items_fit = each (λ y. y.item < items) (range-item w r) o.items_fit;

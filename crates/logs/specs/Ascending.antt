@@ -4,5 +4,5 @@ use Rattle.words.specs.Lists.{In}
 use Rattle.logs.specs.Write.{Write, before}
 
 pub data Ascending : List Write → Type 0 where
-  ascending-nil : Ascending []
-  ascending-cons : {w : Write} {ws : List Write} → ((x : Write) → In x ws → before w x ≡ true) → Ascending ws → Ascending (w ∷ ws)
+  ascending_nil : Ascending []
+  ascending_cons : {w : Write} {ws : List Write} → ((x : Write) → In x ws → before w x ≡ true) → Ascending ws → Ascending (w ∷ ws)

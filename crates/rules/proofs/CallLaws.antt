@@ -18,7 +18,7 @@ use Rattle.rules.specs.Step.{Step, Op, asked, Answer, refused, done, bad}
 use Rattle.rules.proofs.StepLaws.{asked-in_range}
 use Rattle.rules.specs.Rules.{write_answer, exchange_answer, rule}
 use Rattle.rules.proofs.CodeLaws.{read-code}
-use Rattle.rules.specs.Effects.{Effect, was-refused, was-opened, was-closed, was_read, was-written, was-exchanged}
+use Rattle.rules.specs.Effects.{Effect, was_refused, was_opened, was_closed, was_read, was_written, was_exchanged}
 use Rattle.rules.proofs.Effects.{effect}
 use Rattle.rules.proofs.SoundKept.{effect-sound}
 use Rattle.rules.specs.Calls.{written, step, onward, walk}
@@ -26,7 +26,7 @@ use Rattle.rules.specs.CallLaws.{Ended, Refusal, accepted, rejected}
 
 -- Within the limits there is a server.
 pub within-server : (z : Size) → within z ≡ true → 1 ≤ z.n
-within-server z h = ((within-exactly z).0 h).some-server
+within-server z h = ((within-exactly z).0 h).some_server
 
 -- ---- one step
 
@@ -65,7 +65,7 @@ module _ {z : Size} {s : State} {t : List ℕ} (means : Means z s t) (x : Step) 
 -- What is out of range is refused.
 pub bad-refused : {A : Type 0} {z : Size} {s : State} {r : Answer} {after : State} → Effect z s bad r after → r.code ≡ 0 → A
 unfolding refused
-bad-refused (was-refused code h) e = absurd (omega arith)
+bad-refused (was_refused code h) e = absurd (omega arith)
 
 -- An accepted step has the effect of what its kind asks for.
 pub accepted-effect : {z : Size} {s : State} {t : List ℕ} (means : Means z s t) (x : Step) → (step t x).answer.code ≡ 0
@@ -84,12 +84,12 @@ step-sound t x h = means-sound (means-next (sound-means t h) x)
 -- Every effect ends in one of the two.
 pub effect-ended : {z : Size} {s : State} {o : Op} {r : Answer} {after : State} → Effect z s o r after → Ended r s after
 unfolding done write_answer exchange_answer
-effect-ended (was-refused code h) = rejected code h refl refl
-effect-ended (was-opened e) = accepted refl
-effect-ended (was-closed q e) = accepted refl
+effect-ended (was_refused code h) = rejected code h refl refl
+effect-ended (was_opened e) = accepted refl
+effect-ended (was_closed q e) = accepted refl
 effect-ended {s = s} (was_read {item = item} q i e c) = accepted (read-code i (last_on item (s.log i)))
-effect-ended (was-written q i e c) = accepted refl
-effect-ended (was-exchanged e) = accepted refl
+effect-ended (was_written q i e c) = accepted refl
+effect-ended (was_exchanged e) = accepted refl
 
 step-ended : (t : List ℕ) (x : Step) → sound t ≡ true → Ended (step t x).answer (decode (size_of t) t) (rule (size_of t) (decode (size_of t) t) x).state
 step-ended t x h =
@@ -101,11 +101,11 @@ refused-words : (t : List ℕ) (x : Step) (code : ℕ) → (step t x).answer ≡
 unfolding refused
 refused-words t x code e same =
     record {
-      no-server = ap (λ r. r.server) e;
+      no_server = ap (λ r. r.server) e;
       no_origin = ap (λ r. r.origin) e;
-      no-clock = ap (λ r. r.clock) e;
+      no_clock = ap (λ r. r.clock) e;
       no_value = ap (λ r. r.value) e;
-      same-words = same;
+      same_words = same;
     }
 
 -- Whatever the code and whatever the table.

@@ -142,7 +142,7 @@ starts_none q e = omega arith
 -- An open slot's search starts at a server.
 pub starts : {z : Size} {s : State} → 1 ≤ z.n → SoundState z s → (k : ℕ) (q : Session) → s.slot k ≡ opened q → start_of q < z.n
 unfolding start_of
-starts {z} {s} some-server sound k q e =
+starts {z} {s} some_server sound k q e =
     let c : SoundSession z.n (λ j. s.vector j j) q = subst (SoundSlot z.n (λ j. s.vector j j)) e (sound.slots k) in
     omega (arith, c.used)
 

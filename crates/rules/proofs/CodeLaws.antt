@@ -18,7 +18,7 @@ use Rattle.rules.specs.Step.{Op, bad, opens, closes, reads, writes, exchanges, r
 use Rattle.rules.specs.Choice.{up_to_date_to_read, up_to_date_to_write, reaches, start_of, choose, around, may_write_to}
 use Rattle.rules.proofs.ChoiceLaws.{choose-some, choose-none, around-below, starts, may-current, may-room, may_write, reach-none}
 use Rattle.rules.specs.Rules.{Outcome, refuse, opening, closing, read_answer, read_from, reading, write_answer, write_to, writing, exchange_answer, exchanging, obeyed}
-use Rattle.rules.specs.Codes.{OutOfRange, out_of_range, WrongSlot, opens-open, closes-closed, reads-closed, writes-closed, ToItself, to-itself, NoneReachable, reads_none, writes-none, Behind, reads-behind, writes-behind, Full, writes-full, Given, NoRoom, ServedBy, Accepted, opens-closed, closes-open, reads-served, writes-taken, exchanges-apart}
+use Rattle.rules.specs.Codes.{OutOfRange, out_of_range, WrongSlot, opens_open, closes_closed, reads_closed, writes_closed, ToItself, to_itself, NoneReachable, reads_none, writes_none, Behind, reads_behind, writes_behind, Full, writes_full, Given, NoRoom, ServedBy, Accepted, opens_closed, closes_open, reads_served, writes_taken, exchanges_apart}
 
 -- Nothing found where every reachable server fails.
 choose-fails : (n start reach : ℕ) (passes : ℕ → Bool) → start < n → ((i : ℕ) → i < n → reaches reach i ≡ true → passes i ≡ false)
@@ -34,7 +34,7 @@ unfolding read_answer
 read-code i none = refl
 read-code i (some w) = refl
 
-module _ (z : Size) (s : State) (some-server : 1 ≤ z.n) (sound : SoundState z s) where
+module _ (z : Size) (s : State) (some_server : 1 ≤ z.n) (sound : SoundState z s) where
   abbrev Says : Op → Outcome → Type 0
   Says o r = Given z s o r.answer.code
 
@@ -42,13 +42,13 @@ module _ (z : Size) (s : State) (some-server : 1 ≤ z.n) (sound : SoundState z 
 
   opening-says : (k g : ℕ) (o : Slot) → s.slot k ≡ o → Says (opens k g) (opening s k g o)
   unfolding opening refuse refused done
-  opening-says k g closed e = opens-closed e
-  opening-says k g (opened q) e = opens-open q e
+  opening-says k g closed e = opens_closed e
+  opening-says k g (opened q) e = opens_open q e
 
   closing-says : (k : ℕ) (o : Slot) → s.slot k ≡ o → Says (closes k) (closing s k o)
   unfolding closing refuse refused done
-  closing-says k closed e = closes-closed e
-  closing-says k (opened q) e = closes-open q e
+  closing-says k closed e = closes_closed e
+  closing-says k (opened q) e = closes_open q e
 
   -- Who was chosen serves.
   chosen-serves : {passes : Session → ℕ → Bool} (k reach : ℕ) (q : Session) → s.slot k ≡ opened q → (i : ℕ) → Chosen z.n (start_of q) reach (passes q) i
@@ -61,15 +61,15 @@ module _ (z : Size) (s : State) (some-server : 1 ≤ z.n) (sound : SoundState z 
       → ((i : ℕ) → found ≡ some i → Chosen z.n (start_of q) reach (up_to_date_to_read z s q) i)
       → Says (reads k item reach) (read_from s k item q found)
   unfolding read_from refuse refused
-  read_from-says k item reach q e r none stale found = reads-behind (record { session = q; is = e; reached = r; stale = stale refl })
+  read_from-says k item reach q e r none stale found = reads_behind (record { session = q; is = e; reached = r; stale = stale refl })
   read_from-says k item reach q e r (some i) stale found =
-      subst (Given z s (reads k item reach)) (sym (read-code i (last_on item (s.log i)))) (reads-served (chosen-serves k reach q e i (found i refl)))
+      subst (Given z s (reads k item reach)) (sym (read-code i (last_on item (s.log i)))) (reads_served (chosen-serves k reach q e i (found i refl)))
 
   reading-says : (k item reach : ℕ) (o : Slot) → s.slot k ≡ o → Says (reads k item reach) (reading z s k item reach o)
   unfolding reading refuse refused
-  reading-says k item reach closed e = reads-closed e
+  reading-says k item reach closed e = reads_closed e
   reading-says k item reach (opened q) e =
-      let h = starts some-server sound k q e in
+      let h = starts some_server sound k q e in
       cond-elim (Says (reads k item reach)) (eqb reach 0) (λ t. reads_none q e (eqb-true reach 0 t)) (λ t. read_from-says k item reach q e
       (eqb-false reach 0 t) _
       (choose-none z.n (start_of q) reach (up_to_date_to_read z s q) h)
@@ -82,10 +82,10 @@ module _ (z : Size) (s : State) (some-server : 1 ≤ z.n) (sound : SoundState z 
       → ((j : ℕ) → roomy ≡ some j → Chosen z.n (start_of q) reach (may_write_to z s q) j)
       → Says (writes k item value reach) (write_to z s k item value q found roomy)
   unfolding write_to write_answer refuse refused
-  write_to-says k item value reach q e r none roomy stale found full free = writes-behind (record { session = q; is = e; reached = r; stale = stale refl })
+  write_to-says k item value reach q e r none roomy stale found full free = writes_behind (record { session = q; is = e; reached = r; stale = stale refl })
   write_to-says k item value reach q e r (some i) none stale found full free =
       let c : Chosen z.n (start_of q) reach (up_to_date_to_write z s q) i = found i refl in
-      writes-full
+      writes_full
       (record {
         session = q;
         is = e;
@@ -102,14 +102,14 @@ module _ (z : Size) (s : State) (some-server : 1 ≤ z.n) (sound : SoundState z 
       let c : Chosen z.n (start_of q) reach (may_write_to z s q) j = free j refl in
       let served : ServedBy z s (up_to_date_to_write z s) k reach =
       record { session = q; is = e; server = j; below = c.server; reachable = c.reachable; passed = may-current z s q j c.passed } in
-      writes-taken (record { served = served; free = may-room z s q j c.passed })
+      writes_taken (record { served = served; free = may-room z s q j c.passed })
 
   writing-says : (k item value reach : ℕ) (o : Slot) → s.slot k ≡ o → Says (writes k item value reach) (writing z s k item value reach o)
   unfolding writing refuse refused
-  writing-says k item value reach closed e = writes-closed e
+  writing-says k item value reach closed e = writes_closed e
   writing-says k item value reach (opened q) e =
-      let h = starts some-server sound k q e in
-      cond-elim (Says (writes k item value reach)) (eqb reach 0) (λ t. writes-none q e (eqb-true reach 0 t)) (λ t. write_to-says k item value
+      let h = starts some_server sound k q e in
+      cond-elim (Says (writes k item value reach)) (eqb reach 0) (λ t. writes_none q e (eqb-true reach 0 t)) (λ t. write_to-says k item value
       reach q e (eqb-false reach 0 t) _ _ (choose-none z.n (start_of q) reach (up_to_date_to_write z s q) h)
       (λ i. choose-some z.n (start_of q) reach (up_to_date_to_write z s q) i h)
       (choose-none z.n (start_of q) reach (may_write_to z s q) h)
@@ -118,8 +118,8 @@ module _ (z : Size) (s : State) (some-server : 1 ≤ z.n) (sound : SoundState z 
   exchanging-says : (source target most : ℕ) → Says (exchanges source target most) (exchanging z s source target most)
   unfolding exchanging exchange_answer refuse refused
   exchanging-says source target most =
-      cond-elim (Says (exchanges source target most)) (eqb source target) (λ t. to-itself (eqb-true source target t))
-      (λ t. exchanges-apart (eqb-false source target t))
+      cond-elim (Says (exchanges source target most)) (eqb source target) (λ t. to_itself (eqb-true source target t))
+      (λ t. exchanges_apart (eqb-false source target t))
 
   -- Whatever code a step gets, the table of codes gives it.
   pub code-given : (o : Op) → Says o (obeyed z s o)
@@ -156,37 +156,37 @@ module _ (z : Size) (s : State) (some-server : 1 ≤ z.n) (sound : SoundState z 
 
   slot-code : {o : Op} → WrongSlot s o → Code o 3
   unfolding obeyed opening closing reading writing refuse refused
-  slot-code (opens-open {k = k} {g = g} q e) = ap (λ o. (opening s k g o).answer.code) e
-  slot-code (closes-closed {k = k} e) = ap (λ o. (closing s k o).answer.code) e
-  slot-code (reads-closed {k = k} {item = item} {reach = reach} e) = ap (λ o. (reading z s k item reach o).answer.code) e
-  slot-code (writes-closed {k = k} {item = item} {value = value} {reach = reach} e) = ap (λ o. (writing z s k item value reach o).answer.code) e
+  slot-code (opens_open {k = k} {g = g} q e) = ap (λ o. (opening s k g o).answer.code) e
+  slot-code (closes_closed {k = k} e) = ap (λ o. (closing s k o).answer.code) e
+  slot-code (reads_closed {k = k} {item = item} {reach = reach} e) = ap (λ o. (reading z s k item reach o).answer.code) e
+  slot-code (writes_closed {k = k} {item = item} {value = value} {reach = reach} e) = ap (λ o. (writing z s k item value reach o).answer.code) e
 
   itself-code : {o : Op} → ToItself o → Code o 4
   unfolding obeyed exchanging refuse refused
-  itself-code (to-itself {source = source} {target = target} e) =
+  itself-code (to_itself {source = source} {target = target} e) =
       ap (λ r. r.answer.code) (cond-true (eqb source target) (refuse 4 s) _ (eq-eqb source target e))
 
   none-code : {o : Op} → NoneReachable s o → Code o 5
   unfolding obeyed reading writing refuse refused
   none-code (reads_none {k = k} {item = item} {reach = reach} q e r) =
       ap (λ o. (reading z s k item reach o).answer.code) e ∙ ap (λ o. o.answer.code) (cond-true (eqb reach 0) (refuse 5 s) _ (eq-eqb reach 0 r))
-  none-code (writes-none {k = k} {item = item} {value = value} {reach = reach} q e r) =
+  none-code (writes_none {k = k} {item = item} {value = value} {reach = reach} q e r) =
       ap (λ o. (writing z s k item value reach o).answer.code) e
       ∙ ap (λ o. o.answer.code) (cond-true (eqb reach 0) (refuse 5 s) _ (eq-eqb reach 0 r))
 
   behind-code : {o : Op} → Behind z s o → Code o 6
   unfolding read_from write_to refuse refused
-  behind-code (reads-behind {k = k} {item = item} {reach = reach} b) =
+  behind-code (reads_behind {k = k} {item = item} {reach = reach} b) =
       let q = b.session in
       ap (λ o. o.answer.code) (read_goes k item reach q b.is b.reached)
       ∙ ap (λ f. (read_from s k item q f).answer.code)
-      (choose-fails z.n (start_of q) reach (up_to_date_to_read z s q) (starts some-server sound k q b.is) b.stale)
-  behind-code (writes-behind {k = k} {item = item} {value = value} {reach = reach} b) =
+      (choose-fails z.n (start_of q) reach (up_to_date_to_read z s q) (starts some_server sound k q b.is) b.stale)
+  behind-code (writes_behind {k = k} {item = item} {value = value} {reach = reach} b) =
       let q = b.session in
       ap (λ o. o.answer.code) (write_goes k item value reach q b.is b.reached)
       ∙ ap
       (λ f. (write_to z s k item value q f (choose z.n (start_of q) reach (may_write_to z s q))).answer.code)
-      (choose-fails z.n (start_of q) reach (up_to_date_to_write z s q) (starts some-server sound k q b.is) b.stale)
+      (choose-fails z.n (start_of q) reach (up_to_date_to_write z s q) (starts some_server sound k q b.is) b.stale)
 
   -- Up to date somewhere and with room nowhere: 7.
   somewhere : (k item value : ℕ) (q : Session) (found : Option ℕ) → (found ≡ none → ⊥) → (write_to z s k item value q found none).answer.code ≡ 7
@@ -200,9 +200,9 @@ module _ (z : Size) (s : State) (some-server : 1 ≤ z.n) (sound : SoundState z 
       not-true-false (may_write_to z s b.session i) (λ t. omega (arith, may-room z s b.session i t, b.full i l r (may-current z s b.session i t)))
 
   full-code : {o : Op} → Full z s o → Code o 7
-  full-code (writes-full {k = k} {item = item} {value = value} {reach = reach} b) =
+  full-code (writes_full {k = k} {item = item} {value = value} {reach = reach} b) =
       let q = b.session in
-      let h = starts some-server sound k q b.is in
+      let h = starts some_server sound k q b.is in
       let current = choose z.n (start_of q) reach (up_to_date_to_write z s q) in
       let found : current ≡ none → ⊥ = λ e. true-not-false b.up_to_date (choose-none z.n (start_of q) reach (up_to_date_to_write z s q) h e b.server b.below b.reachable) in
       ap (λ o. o.answer.code) (write_goes k item value reach q b.is b.reached)
@@ -214,7 +214,7 @@ module _ (z : Size) (s : State) (some-server : 1 ≤ z.n) (sound : SoundState z 
   served-found {passes} {k} {reach} b e =
       let q = b.session in
       true-not-false b.passed
-      (choose-none z.n (start_of q) reach (passes q) (starts some-server sound k q b.is) e b.server b.below b.reachable)
+      (choose-none z.n (start_of q) reach (passes q) (starts some_server sound k q b.is) e b.server b.below b.reachable)
 
   -- And so the reach set isn't 0.
   served-reach : {passes : Session → ℕ → Bool} {k reach : ℕ} → ServedBy z s passes k reach → reach ≡ 0 → ⊥
@@ -234,19 +234,19 @@ module _ (z : Size) (s : State) (some-server : 1 ≤ z.n) (sound : SoundState z 
 
   accepted-code : {o : Op} → Accepted z s o → Code o 0
   unfolding obeyed opening closing exchanging exchange_answer done
-  accepted-code (opens-closed {k = k} {g = g} e) = ap (λ o. (opening s k g o).answer.code) e
-  accepted-code (closes-open {k = k} q e) = ap (λ o. (closing s k o).answer.code) e
-  accepted-code (reads-served {k = k} {item = item} {reach = reach} b) =
+  accepted-code (opens_closed {k = k} {g = g} e) = ap (λ o. (opening s k g o).answer.code) e
+  accepted-code (closes_open {k = k} q e) = ap (λ o. (closing s k o).answer.code) e
+  accepted-code (reads_served {k = k} {item = item} {reach = reach} b) =
       ap (λ o. o.answer.code) (read_goes k item reach b.session b.is (served-reach b))
       ∙ reads-from k item b.session _ (served-found b)
-  accepted-code (writes-taken {k = k} {item = item} {value = value} {reach = reach} b) =
+  accepted-code (writes_taken {k = k} {item = item} {value = value} {reach = reach} b) =
       let w : ServedBy z s (up_to_date_to_write z s) k reach = b.served in
       let q = w.session in
       let may : ServedBy z s (may_write_to z s) k reach =
       record { session = q; is = w.is; server = w.server; below = w.below; reachable = w.reachable; passed = may_write z s q w.server w.passed b.free } in
       ap (λ o. o.answer.code) (write_goes k item value reach q w.is (served-reach w))
       ∙ writes-to k item value q _ _ (served-found w) (served-found may)
-  accepted-code (exchanges-apart {source = source} {target = target} e) =
+  accepted-code (exchanges_apart {source = source} {target = target} e) =
       ap (λ r. r.answer.code) (cond-false (eqb source target) (refuse 4 s) _ (ne_eqb source target e))
 
   -- ---- both

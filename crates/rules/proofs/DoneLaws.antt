@@ -22,10 +22,10 @@ use Rattle.rules.specs.Step.{opens, closes, reads, writes, exchanges, Answer, re
 use Rattle.rules.specs.StepLaws.{InRange}
 use Rattle.rules.specs.Rules.{new_session, read_answer, after_read, new_write, after_write, accepted, write_answer, going_over, sent, received, exchange_answer}
 use Rattle.rules.proofs.Figure1.{read-raises, read-leaves, read-chosen, read-uses, write-sets, write-leaves, write-reads, write-chosen, write-uses, accepted-log, accepted-clock, accepted-others, new-chosen, new-unused, new-reads, new-writes}
-use Rattle.rules.specs.Effects.{Effect, was-refused, was-opened, was-closed, was_read, was-written, was-exchanged}
+use Rattle.rules.specs.Effects.{Effect, was_refused, was_opened, was_closed, was_read, was_written, was_exchanged}
 use Rattle.rules.proofs.Arrivals.{new-last, length-sent, sent-after}
 use Rattle.rules.proofs.SoundKept.{effect-sound}
-use Rattle.rules.specs.Done.{Answers, OnlySlot, OpenDone, CloseDone, Shows, shows_nothing, shows-last, ReadDone, WriteDone, ExchangeDone}
+use Rattle.rules.specs.Done.{Answers, OnlySlot, OpenDone, CloseDone, Shows, shows_nothing, shows_last, ReadDone, WriteDone, ExchangeDone}
 
 -- A refusal's code is not 0.
 refused-not-0 : {A : Type 0} (code : ℕ) → 2 ≤ code → (refused code).code ≡ 0 → A
@@ -50,19 +50,19 @@ module _ (s : State) (k : ℕ) (o : Slot) where
 
 done-zeros : Answers done 0 0 0 0 0
 unfolding done
-done-zeros = record { code_is = refl; server-is = refl; origin-is = refl; clock-is = refl; value-is = refl }
+done-zeros = record { code_is = refl; server_is = refl; origin_is = refl; clock_is = refl; value_is = refl }
 
 -- ---- open and close
 
 -- An accepted open did what is said of it,
 pub open_done : {z : Size} {s : State} {k g : ℕ} {r : Answer} {after : State} → Effect z s (opens k g) r after → r.code ≡ 0 → OpenDone s k g r after
-open_done (was-refused code h) e = refused-not-0 code h e
-open_done {s = s} (was-opened {k = k} {g = g} p) e =
+open_done (was_refused code h) e = refused-not-0 code h e
+open_done {s = s} (was_opened {k = k} {g = g} p) e =
     record {
-      was-closed = p;
+      was_closed = p;
       answered = done-zeros;
       next = new_session g;
-      now-open = slot-now s k (opened (new_session g));
+      now_open = slot-now s k (opened (new_session g));
       chosen = new-chosen g;
       unused = new-unused g;
       unread = new-reads g;
@@ -72,9 +72,9 @@ open_done {s = s} (was-opened {k = k} {g = g} p) e =
 
 -- and so did a close,
 pub close-done : {z : Size} {s : State} {k : ℕ} {r : Answer} {after : State} → Effect z s (closes k) r after → r.code ≡ 0 → CloseDone s k r after
-close-done (was-refused code h) e = refused-not-0 code h e
-close-done {s = s} (was-closed {k = k} q p) e =
-    record { session = q; was-open = p; answered = done-zeros; now-closed = slot-now s k closed; rest = slot-only s k closed }
+close-done (was_refused code h) e = refused-not-0 code h e
+close-done {s = s} (was_closed {k = k} q p) e =
+    record { session = q; was_open = p; answered = done-zeros; now_closed = slot-now s k closed; rest = slot-only s k closed }
 
 -- ---- read
 
@@ -82,20 +82,20 @@ close-done {s = s} (was-closed {k = k} q p) e =
 read-shows : (item i : ℕ) {g : List Write} → Ascending g → (found : Option Write) → last_on item g ≡ found → Shows item i g (read_answer i found)
 unfolding read_answer
 read-shows item i {g} a none e =
-    shows_nothing (last_on-none item g e) (record { code_is = refl; server-is = refl; origin-is = refl; clock-is = refl; value-is = refl })
+    shows_nothing (last_on-none item g e) (record { code_is = refl; server_is = refl; origin_is = refl; clock_is = refl; value_is = refl })
 read-shows item i a (some w) e =
-    shows-last w (last_on-some item a w e) (record { code_is = refl; server-is = refl; origin-is = refl; clock-is = refl; value-is = refl })
+    shows_last w (last_on-some item a w e) (record { code_is = refl; server_is = refl; origin_is = refl; clock_is = refl; value_is = refl })
 
 module _ {z : Size} {s : State} (sound : SoundState z s) where
   -- a read,
   pub read_done : {k item reach : ℕ} {r : Answer} {after : State} → Effect z s (reads k item reach) r after → r.code ≡ 0
       → ReadDone z s k item reach r after
-  read_done (was-refused code h) e = refused-not-0 code h e
+  read_done (was_refused code h) e = refused-not-0 code h e
   read_done (was_read {k = k} {item = item} q i o c) e =
       let v = s.vector i in
       record {
         session = q;
-        open-slot = o;
+        open_slot = o;
         server = i;
         chosen = c;
         shows = read-shows item i (sound.ascending i) (last_on item (s.log i)) refl;
@@ -103,7 +103,7 @@ module _ {z : Size} {s : State} (sound : SoundState z s) where
         still_open = slot-now s k (opened (after_read q i v));
         raised = read-raises q i v;
         kept = read-leaves q i v;
-        same-choice = read-chosen q i v;
+        same_choice = read-chosen q i v;
         uses = read-uses q i v;
         rest = slot-only s k (opened (after_read q i v));
       }
@@ -114,32 +114,32 @@ module _ {z : Size} {s : State} (sound : SoundState z s) where
   pub write_done : {k item value reach : ℕ} {r : Answer} {after : State} → Effect z s (writes k item value reach) r after → r.code ≡ 0
       → WriteDone z s k item value reach r after
   unfolding new_write write_answer accepted with_slot with_vector with_log
-  write_done (was-refused code h) e = refused-not-0 code h e
-  write_done (was-written {k = k} {item = item} {value = value} q i o c) e =
+  write_done (was_refused code h) e = refused-not-0 code h e
+  write_done (was_written {k = k} {item = item} {value = value} q i o c) e =
       let w = new_write z s i item value in
       record {
         session = q;
-        open-slot = o;
+        open_slot = o;
         server = i;
         chosen = c;
         clock = w.clock;
         clocked = refl;
         write = w;
-        write-is = refl;
-        answered = record { code_is = refl; server-is = refl; origin-is = refl; clock-is = refl; value-is = refl };
+        write_is = refl;
+        answered = record { code_is = refl; server_is = refl; origin_is = refl; clock_is = refl; value_is = refl };
         last = new-last sound i item value c.server;
         stored = accepted-log s k q i w;
-        other-logs = λ h d. upd_other s.log i (s.log i ++ (w ∷ [])) h d;
+        other_logs = λ h d. upd_other s.log i (s.log i ++ (w ∷ [])) h d;
         known = accepted-clock s k q i w;
-        other-components = accepted-others s k q i w;
+        other_components = accepted-others s k q i w;
         next = after_write q i w.clock;
         still_open = upd_same s.slot k (opened (after_write q i w.clock)) k refl;
         set = write-sets q i w.clock i refl;
         kept = write-leaves q i w.clock;
         reads_kept = write-reads q i w.clock;
-        same-choice = write-chosen q i w.clock;
+        same_choice = write-chosen q i w.clock;
         uses = write-uses q i w.clock;
-        other-slots = λ m d. upd_other s.slot k (opened (after_write q i w.clock)) m d;
+        other_slots = λ m d. upd_other s.slot k (opened (after_write q i w.clock)) m d;
       }
 
   -- ---- exchange
@@ -174,7 +174,7 @@ module _ {z : Size} {s : State} (sound : SoundState z s) where
           least = refl;
           gone = ws;
           first = refl;
-          answered = record { code_is = refl; server-is = refl; origin-is = refl; clock-is = refl; value-is = refl };
+          answered = record { code_is = refl; server_is = refl; origin_is = refl; clock_is = refl; value_is = refl };
           rises = ap length log-then ∙ omega (arith, length-insert_all ws (s.log target), length-sent sound source target most);
           holds = λ w. (
             λ m. in-insert_all ws (s.log target) (subst (λ (g : List Write). In w g) log-then m),
@@ -183,14 +183,14 @@ module _ {z : Size} {s : State} (sound : SoundState z s) where
           in_order = after.ascending target;
           complete = λ w x m h b. subst (λ (g : List Write). In x g) (sym log-then) (sent-after sound source target most w x m h b);
           follows = λ j. state-follows after target j;
-          other-logs = λ i d. upd_other s.log target (insert_all ws (s.log target)) i d;
-          other-vectors = λ i j d. ap (λ (v : ℕ → ℕ). v j) (upd_other s.vector target _ i d);
-          same-slots = λ m. refl;
+          other_logs = λ i d. upd_other s.log target (insert_all ws (s.log target)) i d;
+          other_vectors = λ i j d. ap (λ (v : ℕ → ℕ). v j) (upd_other s.vector target _ i d);
+          same_slots = λ m. refl;
         }
 
   -- and an exchange.
   pub exchange-done : {source target most : ℕ} {r : Answer} {after : State} → InRange z (exchanges source target most)
       → Effect z s (exchanges source target most) r after → r.code ≡ 0 → ExchangeDone z s source target most r after
-  exchange-done range (was-refused code h) e = refused-not-0 code h e
-  exchange-done range (was-exchanged {source = source} {target = target} {most = most} p) e =
-      exchanged source target most p (effect-sound sound range (was-exchanged p))
+  exchange-done range (was_refused code h) e = refused-not-0 code h e
+  exchange-done range (was_exchanged {source = source} {target = target} {most = most} p) e =
+      exchanged source target most p (effect-sound sound range (was_exchanged p))

@@ -14,25 +14,25 @@ use Rattle.rules.specs.Step.{Op, bad, opens, closes, reads, writes, exchanges}
 use Rattle.rules.specs.Choice.{up_to_date_to_read, start_of, may_write_to}
 use Rattle.rules.proofs.ChoiceLaws.{choose-some, starts}
 use Rattle.rules.specs.Rules.{Outcome, refuse, opening, closing, read_from, reading, write_to, writing, exchanging, obeyed}
-use Rattle.rules.specs.Effects.{Effect, was-closed, was-exchanged, was-opened, was-refused, was-written, was_read}
+use Rattle.rules.specs.Effects.{Effect, was_closed, was_exchanged, was_opened, was_refused, was_written, was_read}
 
-module _ (z : Size) (s : State) (some-server : 1 ≤ z.n) (sound : SoundState z s) where
+module _ (z : Size) (s : State) (some_server : 1 ≤ z.n) (sound : SoundState z s) where
   abbrev Done : Op → Outcome → Type 0
   Done o r = Effect z s o r.answer r.state
 
   refusal : (o : Op) (code : ℕ) → 2 ≤ code → Done o (refuse code s)
   unfolding refuse
-  refusal o code h = was-refused code h
+  refusal o code h = was_refused code h
 
   opening-effect : (k g : ℕ) (o : Slot) → s.slot k ≡ o → Done (opens k g) (opening s k g o)
   unfolding opening
-  opening-effect k g closed e = was-opened e
+  opening-effect k g closed e = was_opened e
   opening-effect k g (opened q) e = refusal (opens k g) _ (omega arith)
 
   closing-effect : (k : ℕ) (o : Slot) → s.slot k ≡ o → Done (closes k) (closing s k o)
   unfolding closing
   closing-effect k closed e = refusal (closes k) _ (omega arith)
-  closing-effect k (opened q) e = was-closed q e
+  closing-effect k (opened q) e = was_closed q e
 
   read_from-effect : (k item reach : ℕ) (q : Session) → s.slot k ≡ opened q → (found : Option ℕ)
       → ((i : ℕ) → found ≡ some i → ChosenToRead z s q reach i)
@@ -46,7 +46,7 @@ module _ (z : Size) (s : State) (some-server : 1 ≤ z.n) (sound : SoundState z 
   reading-effect k item reach closed e = refusal (reads k item reach) _ (omega arith)
   reading-effect k item reach (opened q) e =
       cond-elim (Done (reads k item reach)) (eqb reach 0) (λ t. refusal (reads k item reach) _ (omega arith)) (λ t.
-      read_from-effect k item reach q e _ (λ i f. choose-some z.n (start_of q) reach (up_to_date_to_read z s q) i (starts some-server sound k q e) f))
+      read_from-effect k item reach q e _ (λ i f. choose-some z.n (start_of q) reach (up_to_date_to_read z s q) i (starts some_server sound k q e) f))
 
   write_to-effect : (k item value reach : ℕ) (q : Session) → s.slot k ≡ opened q → (found roomy : Option ℕ)
       → ((i : ℕ) → roomy ≡ some i → ChosenToWrite z s q reach i)
@@ -54,7 +54,7 @@ module _ (z : Size) (s : State) (some-server : 1 ≤ z.n) (sound : SoundState z 
   unfolding write_to
   write_to-effect k item value reach q e none roomy chosen = refusal (writes k item value reach) _ (omega arith)
   write_to-effect k item value reach q e (some i) none chosen = refusal (writes k item value reach) _ (omega arith)
-  write_to-effect k item value reach q e (some i) (some j) chosen = was-written q j e (chosen j refl)
+  write_to-effect k item value reach q e (some i) (some j) chosen = was_written q j e (chosen j refl)
 
   writing-effect : (k item value reach : ℕ) (o : Slot) → s.slot k ≡ o → Done (writes k item value reach) (writing z s k item value reach o)
   unfolding writing
@@ -62,13 +62,13 @@ module _ (z : Size) (s : State) (some-server : 1 ≤ z.n) (sound : SoundState z 
   writing-effect k item value reach (opened q) e =
       cond-elim (Done (writes k item value reach)) (eqb reach 0) (λ t. refusal (writes k item value reach) _ (omega arith)) (λ t.
       write_to-effect k item value reach q e _ _ (λ i f.
-      choose-some z.n (start_of q) reach (may_write_to z s q) i (starts some-server sound k q e) f))
+      choose-some z.n (start_of q) reach (may_write_to z s q) i (starts some_server sound k q e) f))
 
   exchanging-effect : (source target most : ℕ) → Done (exchanges source target most) (exchanging z s source target most)
   unfolding exchanging
   exchanging-effect source target most =
       cond-elim (Done (exchanges source target most)) (eqb source target) (λ t. refusal (exchanges source target most) _ (omega arith))
-      (λ t. was-exchanged (eqb-false source target t))
+      (λ t. was_exchanged (eqb-false source target t))
 
   -- Every step has one of the six effects.
   pub effect : (o : Op) → Effect z s o (obeyed z s o).answer (obeyed z s o).state

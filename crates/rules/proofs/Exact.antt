@@ -21,7 +21,7 @@ use Rattle.rules.specs.Choice.{up_to_date_to_read, up_to_date_to_write}
 use Rattle.rules.proofs.ChoiceLaws.{reach-some, reach-none}
 use Rattle.rules.specs.Rules.{rule}
 use Rattle.rules.specs.Effects.{Effect}
-use Rattle.rules.specs.Codes.{Given, Accepted, NoneReachable, BehindBy, Behind, reads-behind, writes-behind, Full, OutOfRange, out_of_range, WrongSlot, ToItself}
+use Rattle.rules.specs.Codes.{Given, Accepted, NoneReachable, BehindBy, Behind, reads_behind, writes_behind, Full, OutOfRange, out_of_range, WrongSlot, ToItself}
 use Rattle.rules.specs.Exact.{NonePasses}
 use Rattle.rules.proofs.CodeLaws.{code-exactly}
 use Rattle.rules.specs.Done.{OpenDone, CloseDone, ReadDone, WriteDone, ExchangeDone}
@@ -60,12 +60,12 @@ done-exactly t x = given-exactly t x 0 (λ e. omega arith)
 -- 2: "kind, slot, server, item, guarantees, reach or unused word out of range": exactly if the step is not proper.
 pub range-exactly : (t : List ℕ) (x : Step) → ((step t x).answer.code ≡ 2) ↔ ((sound t ≡ true) × (Proper (size_of t) x → ⊥))
 range-exactly t x = (
-  λ e. let g = (given-exactly t x 2 (λ e. omega arith)).0 e in (g.0, (bad-exactly (size_of t) x).0 (is-bad (asked (size_of t) x) g.1)),
+  λ e. let g = (given-exactly t x 2 (λ e. omega arith)).0 e in (g.0, (bad-exactly (size_of t) x).0 (is_bad (asked (size_of t) x) g.1)),
   λ h. (given-exactly t x 2 (λ e. omega arith)).1 (h.0, subst OutOfRange (sym ((bad-exactly (size_of t) x).1 h.1)) out_of_range),
 )
   where
-    is-bad : (o : Op) → OutOfRange o → o ≡ bad
-    is-bad o out_of_range = refl
+    is_bad : (o : Op) → OutOfRange o → o ≡ bad
+    is_bad o out_of_range = refl
 
 -- 3: "open of an open slot; close, read or write on a closed one".
 pub slot-exactly : (t : List ℕ) (x : Step)
@@ -93,7 +93,7 @@ full-exactly t x = given-exactly t x 7 (λ e. omega arith)
 
 -- The buyer's second demand: "To an otherwise proper call, "behind" is given exactly when some server is reachable and no reachable server
 -- passes the check." Proper: the table is sound, the arguments are in range, and the slot is open.
-module _ (t : List ℕ) (x : Step) (is-sound : sound t ≡ true) (k reach : ℕ) (q : Session) (is_open : (decode (size_of t) t).slot k ≡ opened q) where
+module _ (t : List ℕ) (x : Step) (is_sound : sound t ≡ true) (k reach : ℕ) (q : Session) (is_open : (decode (size_of t) t).slot k ≡ opened q) where
   none_passes : (passes : Size → State → Session → ℕ → Bool) → reach_in_range (size_of t).n reach ≡ true
       → BehindBy (size_of t) (decode (size_of t) t) (passes (size_of t) (decode (size_of t) t)) k reach ↔ NonePasses t reach q passes
   none_passes passes range = (
@@ -116,11 +116,11 @@ module _ (t : List ℕ) (x : Step) (is-sound : sound t ≡ true) (k reach : ℕ)
   read-behind-exactly item e =
       let range = subst (InRange (size_of t)) e (asked-in_range (size_of t) x) in (
         λ c. (none_passes up_to_date_to_read range.2).0 (unread (subst (Behind (size_of t) (decode (size_of t) t)) e ((behind-exactly t x).0 c).1)),
-        λ n. (behind-exactly t x).1 (is-sound, subst (Behind (size_of t) (decode (size_of t) t)) (sym e) (reads-behind ((none_passes up_to_date_to_read range.2).1 n))),
+        λ n. (behind-exactly t x).1 (is_sound, subst (Behind (size_of t) (decode (size_of t) t)) (sym e) (reads_behind ((none_passes up_to_date_to_read range.2).1 n))),
       )
     where
       unread : Behind (size_of t) (decode (size_of t) t) (reads k item reach) → BehindBy (size_of t) (decode (size_of t) t) (up_to_date_to_read (size_of t) (decode (size_of t) t)) k reach
-      unread (reads-behind b) = b
+      unread (reads_behind b) = b
 
   -- And a proper write.
   pub write-behind-exactly : (item value : ℕ) → asked (size_of t) x ≡ writes k item value reach
@@ -128,15 +128,15 @@ module _ (t : List ℕ) (x : Step) (is-sound : sound t ≡ true) (k reach : ℕ)
   write-behind-exactly item value e =
       let range = subst (InRange (size_of t)) e (asked-in_range (size_of t) x) in (
         λ c. (none_passes up_to_date_to_write range.2).0 (unwritten (subst (Behind (size_of t) (decode (size_of t) t)) e ((behind-exactly t x).0 c).1)),
-        λ n. (behind-exactly t x).1 (is-sound, subst (Behind (size_of t) (decode (size_of t) t)) (sym e) (writes-behind ((none_passes up_to_date_to_write range.2).1 n))),
+        λ n. (behind-exactly t x).1 (is_sound, subst (Behind (size_of t) (decode (size_of t) t)) (sym e) (writes_behind ((none_passes up_to_date_to_write range.2).1 n))),
       )
     where
       unwritten : Behind (size_of t) (decode (size_of t) t) (writes k item value reach) → BehindBy (size_of t) (decode (size_of t) t) (up_to_date_to_write (size_of t) (decode (size_of t) t)) k reach
-      unwritten (writes-behind b) = b
+      unwritten (writes_behind b) = b
 
 -- ---- what accepted steps do, kind by kind
 
-module _ (t : List ℕ) (x : Step) (is-sound : sound t ≡ true) (done : (step t x).answer.code ≡ 0) where
+module _ (t : List ℕ) (x : Step) (is_sound : sound t ≡ true) (done : (step t x).answer.code ≡ 0) where
   -- The size and the state that the table means, and the state that it then means.
   abbrev z : Size
   z = size_of t
@@ -148,7 +148,7 @@ module _ (t : List ℕ) (x : Step) (is-sound : sound t ≡ true) (done : (step t
   after = decode (size_of (step t x).table) (step t x).table
 
   abbrev means : Means z s t
-  means = sound-means t is-sound
+  means = sound-means t is_sound
 
   happened : (o : Op) → (asked z x ≡ o) ⊎ (asked z x ≡ bad) → Effect z s o (step t x).answer after
   happened o asks =
@@ -185,7 +185,7 @@ module _ (t : List ℕ) (x : Step) (is-sound : sound t ≡ true) (done : (step t
   unfolding slot_words
   close-zeros k l =
       let next = means-next means x in
-      let is : (rule z s x).state.slot x.a ≡ closed = ap (λ u. u.slot x.a) (sym (means-state next)) ∙ (close-exactly k).now-closed in
+      let is : (rule z s x).state.slot x.a ≡ closed = ap (λ u. u.slot x.a) (sym (means-state next)) ∙ (close-exactly k).now_closed in
       ap (λ u. zeros (slot_part z u x.a)) next.words
       ∙ (ap zeros (slot_part-encode z (rule z s x).state (λ i m. next.state.room i) x.a l ∙ ap (slot_words z.n) is)
       ∙ replicate-zeros (2 * z.n + 2))
@@ -198,7 +198,7 @@ module _ (t : List ℕ) (x : Step) (is-sound : sound t ≡ true) (done : (step t
       let then = ap (λ u. get_or u (count_at z x.b) 0) next.words ∙ count-encode z (rule z s x).state x.b l in
       let was = ap (λ u. get_or u (count_at z x.b) 0) means.words ∙ count-encode z s x.b l in
       let same = ap (λ u. length (u.log x.b)) (means-state next) in
-      omega (arith, then, was, same, d.rises, d.answered.value-is)
+      omega (arith, then, was, same, d.rises, d.answered.value_is)
 
 -- After every step on a sound table, accepted or refused, each component of each vector is the greatest clock of its origin in the
 -- server's log, or 0. (002, section 5: a vector "precisely specifies the set of Writes in its database".)

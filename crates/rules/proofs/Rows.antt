@@ -19,23 +19,23 @@ use Rattle.rules.specs.Choice.{read_your_writes, monotonic_reads, writes_follow_
 use Rattle.rules.specs.Rules.{refuse, new_session, opening, closing, read_answer, after_read, read_from, reading, new_write, after_write, accepted, write_answer, write_to, writing, going_over, sent, received, exchange_answer, exchanging, obeyed, rule}
 use Rattle.rules.proofs.RunLaws.{run_fits, steps_of-step_words}
 use Rattle.rules.specs.Calls.{lengths_fit, run, written, step, onward, walk}
-use Rattle.rules.specs.Rows.{answered-words, asked-words, rows, small, ten-answers, ten-steps}
+use Rattle.rules.specs.Rows.{answered_words, asked_words, rows, small, ten_answers, ten_steps}
 
 -- The rules give each row its answer.
-pub ten-rows : (walk (fresh small) ten-steps).answers ≡ ten-answers
+pub ten-rows : (walk (fresh small) ten_steps).answers ≡ ten_answers
 unfolding keep first or_else blocks row part upd below all zeros implies dominates join greatest before same insert insert_all last_on lacking follow in_range goes_on ordered of_origin up_to greatest_clock greatest_of same_all agrees spelled places entry entries within with_vector with_log with_slot header vector_at count_at log_at slot_width slot_at size head_words slot_words encode size_of log_part slot_part session_of slot_of decode rule_a rule_b rule_c rule_d rule_e slot_sound rule_f sound_at sound fresh reach_in_range open_in_range close_in_range read_in_range write_in_range exchange_in_range if_in_range of_kind asked refused done read_your_writes monotonic_reads writes_follow_reads monotonic_writes up_to_date up_to_date_to_read up_to_date_to_write has_room may_write_to reaches start_of next onwards around choose refuse new_session opening closing read_answer after_read read_from reading new_write after_write accepted write_answer write_to writing going_over sent received exchange_answer exchanging obeyed rule written step onward walk
 ten-rows = refl
 
 -- And so does the run, word for word: fifty words asked, and fifty answered, into any answer buffer of that length.
-pub ten-rows-run : (buffer : List ℕ) → length buffer ≡ 50 → (run (fresh small) (asked-words rows) buffer).answers ≡ answered-words rows
+pub ten-rows-run : (buffer : List ℕ) → length buffer ≡ 50 → (run (fresh small) (asked_words rows) buffer).answers ≡ answered_words rows
 unfolding lengths_fit step_words answer_words
 ten-rows-run buffer e =
-    let fit : lengths_fit (step_words ten-steps) buffer ≡ true = and_both (eqb 50 (length buffer)) true (eq-eqb 50 (length buffer) (sym e)) refl in
-    ap (λ r. r.answers) (run_fits (fresh small) (step_words ten-steps) buffer fit)
-    ∙ ap answer_words (ap (λ xs. (walk (fresh small) xs).answers) (steps_of-step_words ten-steps) ∙ ten-rows)
+    let fit : lengths_fit (step_words ten_steps) buffer ≡ true = and_both (eqb 50 (length buffer)) true (eq-eqb 50 (length buffer) (sym e)) refl in
+    ap (λ r. r.answers) (run_fits (fresh small) (step_words ten_steps) buffer fit)
+    ∙ ap answer_words (ap (λ xs. (walk (fresh small) xs).answers) (steps_of-step_words ten_steps) ∙ ten-rows)
 
 -- And the forty-eight words of the table then: header, two server heads, two logs of four places, one slot.
-pub ten-rows-table : (walk (fresh small) ten-steps).table
+pub ten-rows-table : (walk (fresh small) ten_steps).table
     ≡ 2 ∷ 4 ∷ 1 ∷ 0 ∷
     2 ∷ 2 ∷ 3 ∷
     1 ∷ 2 ∷ 2 ∷

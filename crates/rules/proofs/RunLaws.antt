@@ -131,17 +131,17 @@ run-empty t = refl
 
 -- What the definitions give keeps the promises,
 pub step_keeps : (t : List ℕ) (x : Step) → StepPromise t x (step t x).answer (step t x).table
-step_keeps t x = record { answer-is = refl; table_is = refl }
+step_keeps t x = record { answer_is = refl; table_is = refl }
 
 pub run-keeps : (t steps answers : List ℕ) → RunPromise t steps answers (run t steps answers).code (run t steps answers).table (run t steps answers).answers
-run-keeps t steps answers = record { code_is = refl; table_is = refl; answers-are = refl }
+run-keeps t steps answers = record { code_is = refl; table_is = refl; answers_are = refl }
 
 -- and nothing else does: two results that the promise of a step allows are equal,
 pub step-settled : (t : List ℕ) (x : Step) (r₁ r₂ : Answer) (l₁ l₂ : List ℕ) → StepPromise t x r₁ l₁ → StepPromise t x r₂ l₂ → (r₁ ≡ r₂) × (l₁ ≡ l₂)
-step-settled t x r₁ r₂ l₁ l₂ p q = (p.answer-is ∙ sym q.answer-is, p.table_is ∙ sym q.table_is)
+step-settled t x r₁ r₂ l₁ l₂ p q = (p.answer_is ∙ sym q.answer_is, p.table_is ∙ sym q.table_is)
 
 -- and two that the promise of a run allows.
 pub run_settled : (t steps answers : List ℕ) (c₁ c₂ : ℕ) (l₁ l₂ a₁ a₂ : List ℕ) → RunPromise t steps answers c₁ l₁ a₁ → RunPromise t steps answers c₂ l₂ a₂
     → (c₁ ≡ c₂) × (l₁ ≡ l₂) × (a₁ ≡ a₂)
 run_settled t steps answers c₁ c₂ l₁ l₂ a₁ a₂ p q =
-    (p.code_is ∙ sym q.code_is, p.table_is ∙ sym q.table_is, p.answers-are ∙ sym q.answers-are)
+    (p.code_is ∙ sym q.code_is, p.table_is ∙ sym q.table_is, p.answers_are ∙ sym q.answers_are)

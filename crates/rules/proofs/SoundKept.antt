@@ -18,7 +18,7 @@ use Rattle.rules.proofs.ChoiceLaws.{may-room}
 use Rattle.rules.specs.Step.{Op, writes, Answer}
 use Rattle.rules.specs.StepLaws.{InRange}
 use Rattle.rules.specs.Rules.{new_session, after_read, after_write, new_write, accepted, received}
-use Rattle.rules.specs.Effects.{Effect, was-refused, was-opened, was-closed, was_read, was-written, was-exchanged}
+use Rattle.rules.specs.Effects.{Effect, was_refused, was_opened, was_closed, was_read, was_written, was_exchanged}
 use Rattle.rules.proofs.Figure1.{read-raises, read-leaves, read-chosen, read-uses, write-sets, write-leaves, write-reads, write-chosen, write-uses, new-chosen, new-unused, new-reads, new-writes}
 use Rattle.rules.proofs.Arrivals.{write-grows, exchange-grows}
 
@@ -81,26 +81,26 @@ module _ {z : Size} {s : State} (sound : SoundState z s) where
 
   pub effect-sound : {o : Op} {r : Answer} {after : State} → InRange z o → Effect z s o r after → SoundState z after
   unfolding received
-  effect-sound range (was-refused code h) = sound
-  effect-sound range (was-opened {k = k} {g = g} e) =
+  effect-sound range (was_refused code h) = sound
+  effect-sound range (was_opened {k = k} {g = g} e) =
       slot-sound sound k (opened (new_session g)) range.0 (new-sound z.n (λ j. s.vector j j) g range.1)
-  effect-sound range (was-closed {k = k} q e) = slot-sound sound k closed range tt
+  effect-sound range (was_closed {k = k} q e) = slot-sound sound k closed range tt
   effect-sound range (was_read {k = k} q i e c) =
       slot-sound sound k (opened (after_read q i (s.vector i))) range.0
       (read-sound z.n (λ j. s.vector j j) q (session-sound k q e) i (s.vector i) c.server (vector-below-own sound i))
-  effect-sound range (was-written {k = k} {item = item} {value = value} {reach = reach} q i e c) =
+  effect-sound range (was_written {k = k} {item = item} {value = value} {reach = reach} q i e c) =
       written-sound k item value reach q i range e c
-  effect-sound range (was-exchanged {source = source} {target = target} {most = most} e) =
+  effect-sound range (was_exchanged {source = source} {target = target} {most = most} e) =
       grows-sound sound (exchange-grows sound source target most range.1)
 
   -- No log loses a write.
   pub effect-keeps : {o : Op} {r : Answer} {after : State} → InRange z o → Effect z s o r after → (i : ℕ) (w : Write) → In w (s.log i) → In w (after.log i)
   unfolding received accepted with_slot with_vector with_log
-  effect-keeps range (was-refused code h) i w m = m
-  effect-keeps range (was-opened e) i w m = m
-  effect-keeps range (was-closed q e) i w m = m
+  effect-keeps range (was_refused code h) i w m = m
+  effect-keeps range (was_opened e) i w m = m
+  effect-keeps range (was_closed q e) i w m = m
   effect-keeps range (was_read q j e c) i w m = m
-  effect-keeps range (was-written {k = k} {item = item} {value = value} {reach = reach} q j e c) i w m =
+  effect-keeps range (was_written {k = k} {item = item} {value = value} {reach = reach} q j e c) i w m =
       grows-keeps sound (written_grows k item value reach q j range c) i w m
-  effect-keeps range (was-exchanged {source = source} {target = target} {most = most} e) i w m =
+  effect-keeps range (was_exchanged {source = source} {target = target} {most = most} e) i w m =
       grows-keeps sound (exchange-grows sound source target most range.1) i w m

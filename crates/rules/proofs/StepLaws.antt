@@ -8,7 +8,7 @@ use Rattle.std.proofs.Math.Nat.{div-eq_of_lt}
 use borrow.Author.Tests.{ltb-true, eqb-true, lt-ltb, eq-eqb}
 use Rattle.words.specs.TestLaws.{cond-elim, and_left, and_right, cond-true, and_both}
 use Rattle.tables.specs.Size.{Size, items, sums}
-use Rattle.rules.specs.Step.{Step, Op, bad, opens, closes, reads, writes, exchanges, reach_in_range, open_in_range, close_in_range, read_in_range, write_in_range, exchange_in_range, if_in_range, of_kind, asked, Proper, proper-open, proper-close, proper-read, proper-write, proper-exchange}
+use Rattle.rules.specs.Step.{Step, Op, bad, opens, closes, reads, writes, exchanges, reach_in_range, open_in_range, close_in_range, read_in_range, write_in_range, exchange_in_range, if_in_range, of_kind, asked, Proper, proper_open, proper_close, proper_read, proper_write, proper_exchange}
 use Rattle.rules.specs.StepLaws.{InRange}
 
 never : {A : Type 0} → ◌≡◌ {A = ℕ} 0 1 → A
@@ -105,11 +105,11 @@ module _ (z : Size) (x : Step) where
   unfolding open_in_range close_in_range read_in_range write_in_range exchange_in_range
   proper-or-bad =
       by_kind z x (λ o. Proper z x ⊎ (o ≡ bad))
-      (λ k g. inl (proper-open k (ltb-true _ _ (search and_left)) (omega (arith, ltb-true x.b sums (search (and_left, and_right)))) (eqb-true _ _ (search (and_left, and_right))) (eqb-true _ _ (search (and_left, and_right)))))
-      (λ k g. inl (proper-close k (ltb-true _ _ (search and_left)) (eqb-true _ _ (search (and_left, and_right))) (eqb-true _ _ (search (and_left, and_right))) (eqb-true _ _ (search (and_left, and_right)))))
-      (λ k g. inl (proper-read k (ltb-true _ _ (search and_left)) (omega (arith, ltb-true x.b items (search (and_left, and_right)))) ((reach-below z.n x.c).0 (search (and_left, and_right))) (eqb-true _ _ (search (and_left, and_right)))))
-      (λ k g. inl (proper-write k (ltb-true _ _ (search and_left)) (omega (arith, ltb-true x.b items (search (and_left, and_right)))) ((reach-below z.n x.d).0 (search (and_left, and_right)))))
-      (λ k g. inl (proper-exchange k (ltb-true _ _ (search and_left)) (ltb-true _ _ (search (and_left, and_right))) (eqb-true _ _ (search (and_left, and_right)))))
+      (λ k g. inl (proper_open k (ltb-true _ _ (search and_left)) (omega (arith, ltb-true x.b sums (search (and_left, and_right)))) (eqb-true _ _ (search (and_left, and_right))) (eqb-true _ _ (search (and_left, and_right)))))
+      (λ k g. inl (proper_close k (ltb-true _ _ (search and_left)) (eqb-true _ _ (search (and_left, and_right))) (eqb-true _ _ (search (and_left, and_right))) (eqb-true _ _ (search (and_left, and_right)))))
+      (λ k g. inl (proper_read k (ltb-true _ _ (search and_left)) (omega (arith, ltb-true x.b items (search (and_left, and_right)))) ((reach-below z.n x.c).0 (search (and_left, and_right))) (eqb-true _ _ (search (and_left, and_right)))))
+      (λ k g. inl (proper_write k (ltb-true _ _ (search and_left)) (omega (arith, ltb-true x.b items (search (and_left, and_right)))) ((reach-below z.n x.d).0 (search (and_left, and_right)))))
+      (λ k g. inl (proper_exchange k (ltb-true _ _ (search and_left)) (ltb-true _ _ (search (and_left, and_right))) (eqb-true _ _ (search (and_left, and_right)))))
       (inr refl)
 
   -- A proper step is asked for as it stands, kind by kind.
@@ -148,11 +148,11 @@ module _ (z : Size) (x : Step) where
 
   -- What is asked for is not bad.
   pub proper-asked : Proper z x → asked z x ≡ bad → ⊥
-  proper-asked (proper-open k a b c d) e = never (cc (serves-open k a b c d))
-  proper-asked (proper-close k a b c d) e = never (cc (serves-close k a b c d))
-  proper-asked (proper-read k a b c d) e = never (cc (serves-read k a b c d))
-  proper-asked (proper-write k a b d) e = never (cc (serves-write k a b d))
-  proper-asked (proper-exchange k a b d) e = never (cc (serves-exchange k a b d))
+  proper-asked (proper_open k a b c d) e = never (cc (serves-open k a b c d))
+  proper-asked (proper_close k a b c d) e = never (cc (serves-close k a b c d))
+  proper-asked (proper_read k a b c d) e = never (cc (serves-read k a b c d))
+  proper-asked (proper_write k a b d) e = never (cc (serves-write k a b d))
+  proper-asked (proper_exchange k a b d) e = never (cc (serves-exchange k a b d))
 
   -- Code 2, of the words: a step is out of range exactly if it is not proper.
   pub bad-exactly : (asked z x ≡ bad) ↔ (Proper z x → ⊥)

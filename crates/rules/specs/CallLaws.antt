@@ -11,8 +11,8 @@ pub data Ended (r : Answer) (was now : State) : Type 0 where
 
 -- A refused step, of any code and on any table, answers its code and four zeros and leaves every word.
 pub record Refusal (t : List ℕ) (x : Step) : Type 0 where
-  pub no-server : (step t x).answer.server ≡ 0
+  pub no_server : (step t x).answer.server ≡ 0
   pub no_origin : (step t x).answer.origin ≡ 0
-  pub no-clock : (step t x).answer.clock ≡ 0
+  pub no_clock : (step t x).answer.clock ≡ 0
   pub no_value : (step t x).answer.value ≡ 0
-  pub same-words : (step t x).table ≡ t
+  pub same_words : (step t x).table ≡ t

@@ -56,11 +56,11 @@ run t steps answers =
 
 -- A step's: the answer and every word of the table are those of `step`.
 pub record StepPromise (t : List ℕ) (x : Step) (answer : Answer) (left : List ℕ) : Type 0 where
-  pub answer-is : answer ≡ (step t x).answer
+  pub answer_is : answer ≡ (step t x).answer
   pub table_is : left ≡ (step t x).table
 
 -- A run's: its code and every word of table and answer buffer are those of `run`.
 pub record RunPromise (t steps answers : List ℕ) (code : ℕ) (left written-answers : List ℕ) : Type 0 where
   pub code_is : code ≡ (run t steps answers).code
   pub table_is : left ≡ (run t steps answers).table
-  pub answers-are : written-answers ≡ (run t steps answers).answers
+  pub answers_are : written-answers ≡ (run t steps answers).answers

@@ -12,19 +12,19 @@ pub data OutOfRange : Op → Type 0 where
 
 -- 3: "open of an open slot; close, read or write on a closed one"
 pub data WrongSlot (s : State) : Op → Type 0 where
-  opens-open : {k g : ℕ} (q : Session) → s.slot k ≡ opened q → WrongSlot s (opens k g)
-  closes-closed : {k : ℕ} → s.slot k ≡ closed → WrongSlot s (closes k)
-  reads-closed : {k item reach : ℕ} → s.slot k ≡ closed → WrongSlot s (reads k item reach)
-  writes-closed : {k item value reach : ℕ} → s.slot k ≡ closed → WrongSlot s (writes k item value reach)
+  opens_open : {k g : ℕ} (q : Session) → s.slot k ≡ opened q → WrongSlot s (opens k g)
+  closes_closed : {k : ℕ} → s.slot k ≡ closed → WrongSlot s (closes k)
+  reads_closed : {k item reach : ℕ} → s.slot k ≡ closed → WrongSlot s (reads k item reach)
+  writes_closed : {k item value reach : ℕ} → s.slot k ≡ closed → WrongSlot s (writes k item value reach)
 
 -- 4: "exchange from a server to itself"
 pub data ToItself : Op → Type 0 where
-  to-itself : {source target most : ℕ} → source ≡ target → ToItself (exchanges source target most)
+  to_itself : {source target most : ℕ} → source ≡ target → ToItself (exchanges source target most)
 
 -- 5: "reach is 0"
 pub data NoneReachable (s : State) : Op → Type 0 where
   reads_none : {k item reach : ℕ} (q : Session) → s.slot k ≡ opened q → reach ≡ 0 → NoneReachable s (reads k item reach)
-  writes-none : {k item value reach : ℕ} (q : Session) → s.slot k ≡ opened q → reach ≡ 0 → NoneReachable s (writes k item value reach)
+  writes_none : {k item value reach : ℕ} (q : Session) → s.slot k ≡ opened q → reach ≡ 0 → NoneReachable s (writes k item value reach)
 
 -- 6: "behind: reach isn't 0 and no reachable server is up to date"
 pub record BehindBy (z : Size) (s : State) (passes : Session → ℕ → Bool) (k reach : ℕ) : Type 0 where
@@ -34,8 +34,8 @@ pub record BehindBy (z : Size) (s : State) (passes : Session → ℕ → Bool) (
   pub stale : (i : ℕ) → i < z.n → reaches reach i ≡ true → passes session i ≡ false
 
 pub data Behind (z : Size) (s : State) : Op → Type 0 where
-  reads-behind : {k item reach : ℕ} → BehindBy z s (up_to_date_to_read z s) k reach → Behind z s (reads k item reach)
-  writes-behind : {k item value reach : ℕ} → BehindBy z s (up_to_date_to_write z s) k reach → Behind z s (writes k item value reach)
+  reads_behind : {k item reach : ℕ} → BehindBy z s (up_to_date_to_read z s) k reach → Behind z s (reads k item reach)
+  writes_behind : {k item value reach : ℕ} → BehindBy z s (up_to_date_to_write z s) k reach → Behind z s (writes k item value reach)
 
 -- 7: "full: some reachable server is up to date, none such has a free place"
 pub record NoRoom (z : Size) (s : State) (k reach : ℕ) : Type 0 where
@@ -49,7 +49,7 @@ pub record NoRoom (z : Size) (s : State) (k reach : ℕ) : Type 0 where
   pub full : (i : ℕ) → i < z.n → reaches reach i ≡ true → up_to_date_to_write z s session i ≡ true → z.l ≤ length (s.log i)
 
 pub data Full (z : Size) (s : State) : Op → Type 0 where
-  writes-full : {k item value reach : ℕ} → NoRoom z s k reach → Full z s (writes k item value reach)
+  writes_full : {k item value reach : ℕ} → NoRoom z s k reach → Full z s (writes k item value reach)
 
 -- 0: "done". Said by itself, kind by kind, and not as what is left when no refusal applies. A read or a write has a session to serve, and a
 -- reachable server that passes the check (01, "Up to date", "Choice");
@@ -68,11 +68,11 @@ pub record TakenBy (z : Size) (s : State) (k reach : ℕ) : Type 0 where
 
 -- An open finds its slot closed, a close finds it open, and an exchange goes from one server to another.
 pub data Accepted (z : Size) (s : State) : Op → Type 0 where
-  opens-closed : {k g : ℕ} → s.slot k ≡ closed → Accepted z s (opens k g)
-  closes-open : {k : ℕ} (q : Session) → s.slot k ≡ opened q → Accepted z s (closes k)
-  reads-served : {k item reach : ℕ} → ServedBy z s (up_to_date_to_read z s) k reach → Accepted z s (reads k item reach)
-  writes-taken : {k item value reach : ℕ} → TakenBy z s k reach → Accepted z s (writes k item value reach)
-  exchanges-apart : {source target most : ℕ} → (source ≡ target → ⊥) → Accepted z s (exchanges source target most)
+  opens_closed : {k g : ℕ} → s.slot k ≡ closed → Accepted z s (opens k g)
+  closes_open : {k : ℕ} (q : Session) → s.slot k ≡ opened q → Accepted z s (closes k)
+  reads_served : {k item reach : ℕ} → ServedBy z s (up_to_date_to_read z s) k reach → Accepted z s (reads k item reach)
+  writes_taken : {k item value reach : ℕ} → TakenBy z s k reach → Accepted z s (writes k item value reach)
+  exchanges_apart : {source target most : ℕ} → (source ≡ target → ⊥) → Accepted z s (exchanges source target most)
 
 -- The table of codes: what must hold for the code. A code that no row of the table has is not given.
 abbrev pub Given : Size → State → Op → ℕ → Type 0

@@ -15,10 +15,10 @@ use Rattle.rules.specs.Chosen.{ChosenToRead, ChosenToWrite}
 -- The five words of an answer.
 pub record Answers (r : Answer) (code server origin clock value : ℕ) : Type 0 where
   pub code_is : r.code ≡ code
-  pub server-is : r.server ≡ server
-  pub origin-is : r.origin ≡ origin
-  pub clock-is : r.clock ≡ clock
-  pub value-is : r.value ≡ value
+  pub server_is : r.server ≡ server
+  pub origin_is : r.origin ≡ origin
+  pub clock_is : r.clock ≡ clock
+  pub value_is : r.value ≡ value
 
 -- Every vector and log is as it was, and every slot but k.
 pub record OnlySlot (s after : State) (k : ℕ) : Type 0 where
@@ -28,10 +28,10 @@ pub record OnlySlot (s after : State) (k : ℕ) : Type 0 where
 
 -- 01, "Open, close": "Open sets guarantees, zeros the rest. .. Answers are zeros. A reopened slot is a new session."
 pub record OpenDone (s : State) (k guarantees : ℕ) (r : Answer) (after : State) : Type 0 where
-  pub was-closed : s.slot k ≡ closed
+  pub was_closed : s.slot k ≡ closed
   pub answered : Answers r 0 0 0 0 0
   pub next : Session
-  pub now-open : after.slot k ≡ opened next
+  pub now_open : after.slot k ≡ opened next
   pub chosen : next.guarantees ≡ guarantees
   pub unused : next.last_used ≡ 0
   pub unread : (j : ℕ) → next.read_vector j ≡ 0
@@ -41,21 +41,21 @@ pub record OpenDone (s : State) (k guarantees : ℕ) (r : Answer) (after : State
 -- "Close zeros the slot."
 pub record CloseDone (s : State) (k : ℕ) (r : Answer) (after : State) : Type 0 where
   pub session : Session
-  pub was-open : s.slot k ≡ opened session
+  pub was_open : s.slot k ≡ opened session
   pub answered : Answers r 0 0 0 0 0
-  pub now-closed : after.slot k ≡ closed
+  pub now_closed : after.slot k ≡ closed
   pub rest : OnlySlot s after k
 
 -- What a read answers of a log: nothing on the item, or the last write on it.
 pub data Shows (item server : ℕ) (log : List Write) (r : Answer) : Type 0 where
   shows_nothing : ((w : Write) → In w log → w.item ≡ item → ⊥) → Answers r 0 server 0 0 0 → Shows item server log r
-  shows-last : (w : Write) → LastOn item log w → Answers r 0 server w.origin w.clock w.value → Shows item server log r
+  shows_last : (w : Write) → LastOn item log w → Answers r 0 server w.origin w.clock w.value → Shows item server log r
 
 -- A read of the item in slot k, over the servers of `reach`. `chosen`: the first reachable server in search order that is up to date.
 -- `raised` and `kept` are Figure 1 of 002: the read-vector becomes the component maximum, the write-vector stays.
 pub record ReadDone (z : Size) (s : State) (k item reach : ℕ) (r : Answer) (after : State) : Type 0 where
   pub session : Session
-  pub open-slot : s.slot k ≡ opened session
+  pub open_slot : s.slot k ≡ opened session
   pub server : ℕ
   pub chosen : ChosenToRead z s session reach server
   pub shows : Shows item server (s.log server) r
@@ -63,7 +63,7 @@ pub record ReadDone (z : Size) (s : State) (k item reach : ℕ) (r : Answer) (af
   pub still_open : after.slot k ≡ opened next
   pub raised : (j : ℕ) → next.read_vector j ≡ max (session.read_vector j) (s.vector server j)
   pub kept : (j : ℕ) → next.write_vector j ≡ session.write_vector j
-  pub same-choice : next.guarantees ≡ session.guarantees
+  pub same_choice : next.guarantees ≡ session.guarantees
   pub uses : next.last_used ≡ suc server
   pub rest : OnlySlot s after k
 
@@ -72,27 +72,27 @@ pub record ReadDone (z : Size) (s : State) (k item reach : ℕ) (r : Answer) (af
 -- `kept` are Figure 1.
 pub record WriteDone (z : Size) (s : State) (k item value reach : ℕ) (r : Answer) (after : State) : Type 0 where
   pub session : Session
-  pub open-slot : s.slot k ≡ opened session
+  pub open_slot : s.slot k ≡ opened session
   pub server : ℕ
   pub chosen : ChosenToWrite z s session reach server
   pub clock : ℕ
   pub clocked : clock ≡ suc (greatest z.n (s.vector server))
   pub write : Write
-  pub write-is : write ≡ record { origin = server; clock = clock; item = item; value = value }
+  pub write_is : write ≡ record { origin = server; clock = clock; item = item; value = value }
   pub answered : Answers r 0 server server clock value
   pub last : (x : Write) → In x (s.log server) → before x write ≡ true
   pub stored : after.log server ≡ s.log server ++ (write ∷ [])
-  pub other-logs : (i : ℕ) → (i ≡ server → ⊥) → after.log i ≡ s.log i
+  pub other_logs : (i : ℕ) → (i ≡ server → ⊥) → after.log i ≡ s.log i
   pub known : after.vector server server ≡ clock
-  pub other-components : (i j : ℕ) → (i ≡ server → j ≡ server → ⊥) → after.vector i j ≡ s.vector i j
+  pub other_components : (i j : ℕ) → (i ≡ server → j ≡ server → ⊥) → after.vector i j ≡ s.vector i j
   pub next : Session
   pub still_open : after.slot k ≡ opened next
   pub set : next.write_vector server ≡ clock
   pub kept : (j : ℕ) → (j ≡ server → ⊥) → next.write_vector j ≡ session.write_vector j
   pub reads_kept : (j : ℕ) → next.read_vector j ≡ session.read_vector j
-  pub same-choice : next.guarantees ≡ session.guarantees
+  pub same_choice : next.guarantees ≡ session.guarantees
   pub uses : next.last_used ≡ suc server
-  pub other-slots : (m : ℕ) → (m ≡ k → ⊥) → after.slot m ≡ s.slot m
+  pub other_slots : (m : ℕ) → (m ≡ k → ⊥) → after.slot m ≡ s.slot m
 
 -- An exchange. `lacks` and `ordered`: what lacks is what "from" stores and "to" does not, in write order. `first` and `least`: the first k
 -- of it go over, k the least of the three. `rises`: k is the rise of "to"'s count. `holds` and `in_order`: "to" then stores what it did and
@@ -113,6 +113,6 @@ pub record ExchangeDone (z : Size) (s : State) (source target most : ℕ) (r : A
   pub in_order : Ascending (after.log target)
   pub complete : (w x : Write) → In w gone → In x (s.log source) → before x w ≡ true → In x (after.log target)
   pub follows : (j : ℕ) → after.vector target j ≡ greatest_of j (after.log target)
-  pub other-logs : (i : ℕ) → (i ≡ target → ⊥) → after.log i ≡ s.log i
-  pub other-vectors : (i j : ℕ) → (i ≡ target → ⊥) → after.vector i j ≡ s.vector i j
-  pub same-slots : (m : ℕ) → after.slot m ≡ s.slot m
+  pub other_logs : (i : ℕ) → (i ≡ target → ⊥) → after.log i ≡ s.log i
+  pub other_vectors : (i j : ℕ) → (i ≡ target → ⊥) → after.vector i j ≡ s.vector i j
+  pub same_slots : (m : ℕ) → after.slot m ≡ s.slot m

@@ -43,20 +43,20 @@ abbrev pub gets : Row → Answer
 gets r = record { code = r.code; server = r.server; origin = r.origin; clock = r.clock; value = r.value }
 
 -- Of all ten.
-abbrev pub ten-steps : List Step
-ten-steps = map asks rows
+abbrev pub ten_steps : List Step
+ten_steps = map asks rows
 
-abbrev pub ten-answers : List Answer
-ten-answers = map gets rows
+abbrev pub ten_answers : List Answer
+ten_answers = map gets rows
 
 -- The same in words, in the order in which a row has them, whatever order `step_words` and `answer_words` may have.
-abbrev pub asked-words : List Row → List ℕ
-asked-words [] = []
-asked-words (r ∷ rs) = r.kind ∷ r.a ∷ r.b ∷ r.c ∷ r.d ∷ asked-words rs
+abbrev pub asked_words : List Row → List ℕ
+asked_words [] = []
+asked_words (r ∷ rs) = r.kind ∷ r.a ∷ r.b ∷ r.c ∷ r.d ∷ asked_words rs
 
-abbrev pub answered-words : List Row → List ℕ
-answered-words [] = []
-answered-words (r ∷ rs) = r.code ∷ r.server ∷ r.origin ∷ r.clock ∷ r.value ∷ answered-words rs
+abbrev pub answered_words : List Row → List ℕ
+answered_words [] = []
+answered_words (r ∷ rs) = r.code ∷ r.server ∷ r.origin ∷ r.clock ∷ r.value ∷ answered_words rs
 
 abbrev pub small : Size
 small = record { n = 2; l = 4; p = 1 }

@@ -64,11 +64,11 @@ asked z x = of_kind z x x.kind
 -- The same as a plain list of conditions: what makes a step proper. `bad-exactly` in StepLaws.antt says that `asked` gives `bad` exactly if
 -- none of these holds.
 pub data Proper (z : Size) (x : Step) : Type 0 where
-  proper-open : x.kind ≡ 1 → x.a < z.p → x.b ≤ 15 → x.c ≡ 0 → x.d ≡ 0 → Proper z x
-  proper-close : x.kind ≡ 2 → x.a < z.p → x.b ≡ 0 → x.c ≡ 0 → x.d ≡ 0 → Proper z x
-  proper-read : x.kind ≡ 3 → x.a < z.p → x.b ≤ 255 → x.c < 2 ^ z.n → x.d ≡ 0 → Proper z x
-  proper-write : x.kind ≡ 4 → x.a < z.p → x.b ≤ 255 → x.d < 2 ^ z.n → Proper z x
-  proper-exchange : x.kind ≡ 5 → x.a < z.n → x.b < z.n → x.d ≡ 0 → Proper z x
+  proper_open : x.kind ≡ 1 → x.a < z.p → x.b ≤ 15 → x.c ≡ 0 → x.d ≡ 0 → Proper z x
+  proper_close : x.kind ≡ 2 → x.a < z.p → x.b ≡ 0 → x.c ≡ 0 → x.d ≡ 0 → Proper z x
+  proper_read : x.kind ≡ 3 → x.a < z.p → x.b ≤ 255 → x.c < 2 ^ z.n → x.d ≡ 0 → Proper z x
+  proper_write : x.kind ≡ 4 → x.a < z.p → x.b ≤ 255 → x.d < 2 ^ z.n → Proper z x
+  proper_exchange : x.kind ≡ 5 → x.a < z.n → x.b < z.n → x.d ≡ 0 → Proper z x
 
 -- 01, "Steps": "An answer is five words: code, server, origin, clock, value."
 pub record Answer : Type 0 where

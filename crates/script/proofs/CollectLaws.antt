@@ -11,9 +11,9 @@ use Rattle.rules.specs.Step.{Step}
 use Rattle.lines.specs.Line.{StepLine}
 use Rattle.lines.specs.Read.{Got, read_step}
 use Rattle.lines.proofs.ReadLaws.{read-step, step-read}
-use Rattle.script.specs.Reply.{StepLines, no_lines, next-line, BadNext}
+use Rattle.script.specs.Reply.{StepLines, no_lines, next_line, BadNext}
 use Rattle.script.specs.Collect.{Collected, whole, bad_at, longer, push, onto, unless_ended, collect}
-use Rattle.script.specs.CollectLaws.{Says, all-good, goes_on, one-bad}
+use Rattle.script.specs.CollectLaws.{Says, all_good, goes_on, one_bad}
 
 -- A bad line behind one step more.
 pub bad-further : (x : Step) (xs : List Step) → bad_at (length (x ∷ xs) + 2) ≡ bad_at (suc (length xs + 2))
@@ -24,33 +24,33 @@ bad-further x xs = ap bad_at (omega arith)
 -- With one line before.
 says-push : {z : Size} {room : ℕ} {x : Step} {line rest : List ℕ} {o : Collected} → StepLine x line → Says z room rest o → Says z (suc room) (line ++ rest) (push x o)
 unfolding push
-says-push said (all-good lines fit) = all-good (next-line said lines) (omega arith)
-says-push {z} {room} {x} {line} said (one-bad {xs = xs} {front = front} {rest = rest} lines fit bad) =
+says-push said (all_good lines fit) = all_good (next_line said lines) (omega arith)
+says-push {z} {room} {x} {line} said (one_bad {xs = xs} {front = front} {rest = rest} lines fit bad) =
     subst₂ (Says z (suc room)) (append_assoc line front rest) (bad-further x xs)
-    (one-bad (next-line said lines) (omega arith) bad)
+    (one_bad (next_line said lines) (omega arith) bad)
 says-push {z} {room} {line} said (goes_on {front = front} rest lines fill there) =
     subst (λ text. Says z (suc room) text longer) (append_assoc line front rest)
-    (goes_on rest (next-line said lines) (ap suc fill) there)
+    (goes_on rest (next_line said lines) (ap suc fill) there)
 
 -- Where no line is read, none is spelled.
 unread-bad : (b : ℕ) (bs : List ℕ) → read_step (b ∷ bs) ≡ none → BadNext (b ∷ bs)
 unread-bad b bs e =
     record {
-      is-there = omega arith;
-      is-bad = λ x line more said is. none-ne-some _ (sym e ∙ (ap read_step is ∙ step-read said more));
+      is_there = omega arith;
+      is_bad = λ x line more said is. none-ne-some _ (sym e ∙ (ap read_step is ∙ step-read said more));
     }
 
 -- Whatever is collected holds of the text.
 pub collect-says : (z : Size) (room : ℕ) (text : List ℕ) → Says z room text (collect z room text)
 unfolding collect unless_ended onto
-collect-says z zero [] = all-good no_lines (omega arith)
+collect-says z zero [] = all_good no_lines (omega arith)
 collect-says z zero (b ∷ bs) = goes_on (b ∷ bs) no_lines refl (omega arith)
-collect-says z (suc room) [] = all-good no_lines (omega arith)
+collect-says z (suc room) [] = all_good no_lines (omega arith)
 collect-says z (suc room) (b ∷ bs) = next (read_step (b ∷ bs)) refl (λ rest. collect-says z room rest)
   where
     next : (o : Option (Got Step)) → read_step (b ∷ bs) ≡ o → ((rest : List ℕ) → Says z room rest (collect z room rest))
         → Says z (suc room) (b ∷ bs) (onto o (λ rest. collect z room rest))
-    next none e later = one-bad no_lines (omega arith) (unread-bad b bs e)
+    next none e later = one_bad no_lines (omega arith) (unread-bad b bs e)
     next (some g) e later =
         let said = read-step (b ∷ bs) g e in
         subst (λ text. Says z (suc room) text (push g.value (collect z room g.rest))) (sym said.is) (says-push said.spells (later g.rest))
@@ -65,7 +65,7 @@ bad-unread text bad = go (read_step text) refl
     go none e = e
     go (some g) e =
         let said = read-step text g e in
-        absurd (bad.is-bad g.value said.line g.rest said.spells said.is)
+        absurd (bad.is_bad g.value said.line g.rest said.spells said.is)
 
 module _ (z : Size) where
   -- A line that is read.
@@ -81,8 +81,8 @@ module _ (z : Size) where
   collect-lines outcome pushes no_lines room left rest e ends =
       let all : room ≡ left = omega arith in
       ap (λ r. collect z r rest) all ∙ ends
-  collect-lines outcome pushes (next-line said lines) zero left rest e ends = absurd (omega arith)
-  collect-lines outcome pushes (next-line {x = x} {line = line} {xs = xs} {text = text} said lines) (suc room) left rest e ends =
+  collect-lines outcome pushes (next_line said lines) zero left rest e ends = absurd (omega arith)
+  collect-lines outcome pushes (next_line {x = x} {line = line} {xs = xs} {text = text} said lines) (suc room) left rest e ends =
       ap (collect z (suc room)) (append_assoc line text rest)
       ∙ (collect-read room (line ++ (text ++ rest)) _ (step-read said (text ++ rest))
       ∙ (ap (push x) (collect-lines outcome pushes lines room left rest (omega arith) ends) ∙ sym (pushes x xs)))
@@ -108,11 +108,11 @@ module _ (z : Size) where
   -- Whatever holds of a text is what is collected.
   pub says-collect : {room : ℕ} {text : List ℕ} {o : Collected} → Says z room text o → collect z room text ≡ o
   unfolding push
-  says-collect {room} (all-good {xs = xs} {text = text} lines fit) =
+  says-collect {room} (all_good {xs = xs} {text = text} lines fit) =
       let left = room - length xs in
       ap (collect z room) (sym (append-nil text)) ∙ collect-lines (whole z) (λ x xs. refl) lines room left [] (omega arith) (collect-ended left)
-  says-collect {room} (one-bad {xs = xs} {rest = rest} lines fit bad) =
+  says-collect {room} (one_bad {xs = xs} {rest = rest} lines fit bad) =
       let left = room - suc (length xs) in
-      collect-lines (λ xs. bad_at (length xs + 2)) bad-further lines room (suc left) rest (omega arith) (collect-unread left rest bad.is-there (bad-unread rest bad))
+      collect-lines (λ xs. bad_at (length xs + 2)) bad-further lines room (suc left) rest (omega arith) (collect-unread left rest bad.is_there (bad-unread rest bad))
   says-collect {room} (goes_on rest lines fill there) =
       collect-lines (λ xs. longer) (λ x xs. refl) lines room 0 rest (omega arith) (collect-full rest there)

@@ -40,15 +40,15 @@ module _ (z : Size) (ok : admissible z ≡ true) where
   pub admissible-within : Within z
   admissible-within = (within-exactly z).0 within-is
 
-  few-places : z.l ≤ 128
+  few_places : z.l ≤ 128
   unfolding admissible
-  few-places = leb-true z.l 128 (and_right (within z) (leb z.l 128) ok)
+  few_places = leb-true z.l 128 (and_right (within z) (leb z.l 128) ok)
 
   -- The largest table of a script.
   admissible-size : size z ≤ 9012
   unfolding size
   admissible-size =
-      let logs : z.n * (z.l * width) ≤ 8192 = mul-le-mul {n₂ = 16} {m₂ = 512} (omega (arith, admissible-within.few-servers)) (omega (arith, few-places)) in
+      let logs : z.n * (z.l * width) ≤ 8192 = mul-le-mul {n₂ = 16} {m₂ = 512} (omega (arith, admissible-within.few_servers)) (omega (arith, few_places)) in
       omega (arith, logs, heads-bound z admissible-within, slots-bound z admissible-within)
 
   -- It stands at the front of a long enough buffer.
@@ -63,7 +63,7 @@ module _ (z : Size) (ok : admissible z ≡ true) where
 
 -- What is made in a buffer of its length is fresh.
 pub made-fresh : (z : Size) → Within z → {code : ℕ} (buffer : List ℕ) {left : List ℕ} → length buffer ≡ size z → MakePromise z buffer code left → left ≡ fresh z
-made-fresh z limits buffer fits made = made.buffer-is ∙ ap (λ m. m.buffer) (make-done z buffer ((within-exactly z).1 limits) fits)
+made-fresh z limits buffer fits made = made.buffer_is ∙ ap (λ m. m.buffer) (make-done z buffer ((within-exactly z).1 limits) fits)
 
 -- On a fresh table its answers are those of the steps.
 pub fresh-answers : (z : Size) (steps answers : List ℕ) {t : List ℕ} → t ≡ fresh z → length steps ≡ length answers → length steps % 5 ≡ 0
@@ -71,6 +71,6 @@ pub fresh-answers : (z : Size) (steps answers : List ℕ) {t : List ℕ} → t �
 unfolding lengths_fit answers_of
 fresh-answers z steps answers {t} is same whole ran =
     let fit = and_both _ _ (eq-eqb (length steps) (length answers) same) (eq-eqb (length steps % 5) 0 whole) in
-    ran.answers-are
+    ran.answers_are
     ∙ (ap (λ r. r.answers) (run_fits t steps answers fit)
     ∙ ap (λ u. answer_words (walk u (steps_of steps)).answers) is)

@@ -46,20 +46,20 @@ module _ (text : List ℕ) (z : Size) where
     pub steps : List Step
     pub behind : List ℕ
     pub words_are : words ≡ step_words steps ++ behind
-    pub count-is : length steps ≡ count
+    pub count_is : length steps ≡ count
     pub so_far : push_all steps (collect z (most_steps - count) (drop at text)) ≡ collect_from (read_sizes text)
     pub later : 0 < at
 
   module _ {count : ℕ} {words : List ℕ} {at : ℕ} (so : Listing count words at) where
     words_count : length (step_words so.steps) ≡ count * 5
-    words_count = length-step_words so.steps ∙ ap (λ n. n * 5) so.count-is
+    words_count = length-step_words so.steps ∙ ap (λ n. n * 5) so.count_is
 
     -- The text has ended.
     pub listing-ends : length text ≤ at → Fits (Whole z.n z.l z.p count) → ListedPromise text (Whole z.n z.l z.p count) words
     unfolding push
     listing-ends h fits =
         record {
-          found-is =
+          found_is =
               ap (λ ws. some (whole z (steps_of (take (count * 5) ws)))) so.words_are
               ∙ ap some (ap (whole z) (ap steps_of (take_at (step_words so.steps) so.behind (count * 5) words_count) ∙ steps_of-step_words so.steps)
               ∙ (sym (push_all-as (whole z) (λ x xs. refl) so.steps)
@@ -77,7 +77,7 @@ module _ (text : List ℕ) (z : Size) where
     listing-longer h full =
         let none_left : most_steps - count ≡ 0 = omega arith in
         record {
-          found-is =
+          found_is =
               ap some (sym (push_all-as (λ xs. longer) (λ x xs. refl) so.steps)
               ∙ (ap (push_all so.steps) (sym (ap (λ r. collect z r (drop at text)) none_left ∙ collect-full z (drop at text) (there h)))
               ∙ so.so_far));
@@ -89,15 +89,15 @@ module _ (text : List ℕ) (z : Size) where
       room = omega arith
 
       is-step : {r : Line} → LinePromise text (read_line text at) r → read_step (drop at text) ≡ line_in text r
-      is-step found = line-later text at (λ start. omega (arith, so.later)) ∙ sym found.found-is
+      is-step found = line-later text at (λ start. omega (arith, so.later)) ∙ sym found.found_is
 
       -- The next line is bad,
       pub listing-bad : LinePromise text (read_line text at) line.Bad → ListedPromise text (BadAt (count + 2)) words
       unfolding push
       listing-bad found =
           record {
-            found-is =
-                ap some (ap (λ k. bad_at (k + 2)) (sym so.count-is)
+            found_is =
+                ap some (ap (λ k. bad_at (k + 2)) (sym so.count_is)
                 ∙ (sym (push_all-as (λ xs. bad_at (length xs + 2)) bad-further so.steps)
                 ∙ (ap (push_all so.steps) (sym (ap (λ m. collect z m (drop at text)) room ∙ collect-unread z (most_steps - (count + 1)) (drop at text) (there h) (is-step found)))
                 ∙ so.so_far)));
@@ -122,7 +122,7 @@ module _ (text : List ℕ) (z : Size) where
                 (length-take-le 5 so.behind (omega (arith, long, many, words_count)))
                 ∙ (sym (append_assoc (step_words so.steps) (step_words (x ∷ [])) (drop 5 so.behind))
                 ∙ ap (λ ws. ws ++ drop 5 so.behind) (sym (step_words-append so.steps (x ∷ [])))));
-            count-is = length-append so.steps (x ∷ []) ∙ ap (λ n. n + 1) so.count-is;
+            count_is = length-append so.steps (x ∷ []) ∙ ap (λ n. n + 1) so.count_is;
             so_far =
                 sym (push_all-more so.steps x _)
                 ∙ (ap (push_all so.steps) (sym (ap (λ m. collect z m (drop at text)) room ∙ collect-read z (most_steps - (count + 1)) (drop at text) _ read))
@@ -133,19 +133,19 @@ module _ (text : List ℕ) (z : Size) where
 -- ---- the first line
 
 module _ {text : List ℕ} {at : ℕ} (start : at ≡ 0) where
-  first-is : {r : Line} → LinePromise text (read_line text at) r → read_sizes text ≡ line_in text r
-  first-is found = line_first text at start ∙ sym found.found-is
+  first_is : {r : Line} → LinePromise text (read_line text at) r → read_sizes text ≡ line_in text r
+  first_is found = line_first text at start ∙ sym found.found_is
 
   -- It is bad,
   pub first-bad : {words : List ℕ} → LinePromise text (read_line text at) line.Bad → ListedPromise text (BadAt 1) words
   unfolding collect_from
-  first-bad found = record { found-is = ap (λ o. some (collect_from o)) (sym (first-is found)); fits = tt }
+  first-bad found = record { found_is = ap (λ o. some (collect_from o)) (sym (first_is found)); fits = tt }
 
   module _ {kind a b c d next : ℕ} (found : LinePromise text (read_line text at) (line.Good kind a b c d next)) {words : List ℕ} where
     -- or has sizes that a script may not ask for,
     pub first-refused : admissible (sizes a b c) ≡ false → ListedPromise text (BadAt 1) words
     unfolding collect_from sizes_of
-    first-refused fails = record { found-is = ap some (sym (ap collect_from (first-is found) ∙ cond-false (admissible (sizes a b c)) _ _ fails)); fits = tt }
+    first-refused fails = record { found_is = ap some (sym (ap collect_from (first_is found) ∙ cond-false (admissible (sizes a b c)) _ _ fails)); fits = tt }
 
     -- or the steps begin behind it.
     pub first_good : admissible (sizes a b c) ≡ true → Listing text (sizes a b c) 0 words next
@@ -155,7 +155,7 @@ module _ {text : List ℕ} {at : ℕ} (start : at ≡ 0) where
           steps = [];
           behind = words;
           words_are = refl;
-          count-is = refl;
-          so_far = sym (ap collect_from (first-is found) ∙ cond-true (admissible (sizes a b c)) _ _ ok);
-          later = omega (arith, read-sizes-shorter text _ (first-is found), length-drop next text);
+          count_is = refl;
+          so_far = sym (ap collect_from (first_is found) ∙ cond-true (admissible (sizes a b c)) _ _ ok);
+          later = omega (arith, read-sizes-shorter text _ (first_is found), length-drop next text);
         }

@@ -48,7 +48,7 @@ bad_line-fits k out small wide = omega (arith, length-bad_line k, length-decimal
 
 module _ (text : List ℕ) (short : length text ≤ most_bytes) {r : Listed} {words : List ℕ} (found : ListedPromise text r words) where
   listed-says : {s : Listed} {o : Collected} → r ≡ s → collected_in words s ≡ some o → reply_for o ≡ reply_to text
-  listed-says e says = ap reply_for (some-injective _ _ (sym says ∙ (ap (collected_in words) (sym e) ∙ found.found-is))) ∙ sym (short-one text short)
+  listed-says e says = ap reply_for (some-injective _ _ (sym says ∙ (ap (collected_in words) (sym e) ∙ found.found_is))) ∙ sym (short-one text short)
 
   pub listed-fits : {s : Listed} → r ≡ s → Fits s
   listed-fits e = subst Fits e found.fits
@@ -67,7 +67,7 @@ module _ (text : List ℕ) (short : length text ≤ most_bytes) {r : Listed} {wo
     listed-longer is put = puts-as (listed-says is refl) put
 
   pub listed-read : r ≡ Unread → ⊥
-  listed-read is = none-ne-some _ (ap (collected_in words) (sym is) ∙ found.found-is)
+  listed-read is = none-ne-some _ (ap (collected_in words) (sym is) ∙ found.found_is)
 
 -- ---- with room and without
 
@@ -76,20 +76,20 @@ module _ (table steps answers out : List ℕ) where
   unfolding roomy
   roomy-room h =
       record {
-        for-table = leb-true 9012 (length table) (search and_left);
-        for-steps = leb-true 2560 (length steps) (search (and_left, and_right));
-        for-answers = leb-true 2560 (length answers) (search (and_left, and_right));
-        for-out = leb-true 28160 (length out) (search (and_left, and_right));
+        for_table = leb-true 9012 (length table) (search and_left);
+        for_steps = leb-true 2560 (length steps) (search (and_left, and_right));
+        for_answers = leb-true 2560 (length answers) (search (and_left, and_right));
+        for_out = leb-true 28160 (length out) (search (and_left, and_right));
       }
 
   room-roomy : Room table steps answers out → roomy table steps answers out ≡ true
   unfolding roomy
-  room-roomy room = rw (le-leb _ _ room.for-table, le-leb _ _ room.for-steps, le-leb _ _ room.for-answers, le-leb _ _ room.for-out)
+  room-roomy room = rw (le-leb _ _ room.for_table, le-leb _ _ room.for_steps, le-leb _ _ room.for_answers, le-leb _ _ room.for_out)
 
   -- There is room or there isn't.
   room-cases : {A : Type 0} → (Room table steps answers out → A) → ((Room table steps answers out → ⊥) → A) → A
-  room-cases with-room without =
-      ⊎_elim (λ e. with-room (roomy-room e)) (λ e. without (λ room. true-not-false (room-roomy room) e)) (either (roomy table steps answers out))
+  room-cases with_room without =
+      ⊎_elim (λ e. with_room (roomy-room e)) (λ e. without (λ room. true-not-false (room-roomy room) e)) (either (roomy table steps answers out))
 
 -- By the test of the lengths.
 module _ (table steps answers out : List ℕ) {ok : Bool} (is : ok ≡ roomy table steps answers out) where
@@ -102,7 +102,7 @@ module _ (table steps answers out : List ℕ) {ok : Bool} (is : ok ≡ roomy tab
     unfolding splice
     replied h p =
         record {
-          with-room = λ _. record { bytes = reply_to text; is-reply = reply-found text; code_is = refl; count-is = omega (arith, p.next); written = p.written };
+          with_room = λ _. record { bytes = reply_to text; is_reply = reply-found text; code_is = refl; count_is = omega (arith, p.next); written = p.written };
           without = λ small. absurd (small (tested-room h));
           within = omega (arith, p.next, ap length p.written, length-append (reply_to text) (drop (length (reply_to text)) out));
         }
@@ -110,8 +110,8 @@ module _ (table steps answers out : List ℕ) {ok : Bool} (is : ok ≡ roomy tab
     pub refused : ok ≡ false → ReplyPromise text table steps answers out 8 0 table steps answers out
     refused h =
         record {
-          with-room = λ room. true-not-false (room-roomy table steps answers out room) (sym is ∙ h);
-          without = λ _. record { code_is = refl; count-is = refl; table_kept = refl; steps-kept = refl; answers-kept = refl; out-kept = refl };
+          with_room = λ room. true-not-false (room-roomy table steps answers out room) (sym is ∙ h);
+          without = λ _. record { code_is = refl; count_is = refl; table_kept = refl; steps_kept = refl; answers_kept = refl; out_kept = refl };
           within = omega arith;
         }
 
@@ -120,26 +120,26 @@ module _ (table steps answers out : List ℕ) {ok : Bool} (is : ok ≡ roomy tab
 -- 01, "Answer codes": 8 exactly if a length doesn't fit.
 pub reply-8-exactly : (text table steps answers out : List ℕ) {code count : ℕ} {table' steps' answers' out' : List ℕ}
     → ReplyPromise text table steps answers out code count table' steps' answers' out' → (code ≡ 8) ↔ (Room table steps answers out → ⊥)
-reply-8-exactly text table steps answers out p = (λ e room. omega (arith, (p.with-room room).code_is), λ small. (p.without small).code_is)
+reply-8-exactly text table steps answers out p = (λ e room. omega (arith, (p.with_room room).code_is), λ small. (p.without small).code_is)
 
 -- The first `count` bytes are the reply.
 pub replied-front : {text out : List ℕ} {code count : ℕ} {left : List ℕ} → Replied text out code count left → Reply text (take count left)
 replied-front {text} {out} {count = count} p =
-    subst (Reply text) (sym (ap (take count) p.written ∙ take_at p.bytes (drop (length p.bytes) out) count (sym p.count-is))) p.is-reply
+    subst (Reply text) (sym (ap (take count) p.written ∙ take_at p.bytes (drop (length p.bytes) out) count (sym p.count_is))) p.is_reply
 
 replied-settled : {text out : List ℕ} {c d m n : ℕ} {left last : List ℕ} → Replied text out c m left → Replied text out d n last → (c ≡ d) × (m ≡ n) × (left ≡ last)
 replied-settled {text} {out} p q =
-    let same = reply-settled text p.bytes q.bytes p.is-reply q.is-reply in (
+    let same = reply-settled text p.bytes q.bytes p.is_reply q.is_reply in (
       p.code_is ∙ sym q.code_is,
-      p.count-is ∙ (ap length same ∙ sym q.count-is),
+      p.count_is ∙ (ap length same ∙ sym q.count_is),
       p.written ∙ (ap (λ bs. bs ++ drop (length bs) out) same ∙ sym q.written),
     )
 
 misfits-settled : {table steps answers out : List ℕ} {c d m n : ℕ} {t s a o t' s' a' o' : List ℕ} → Misfits table steps answers out c m t s a o → Misfits table steps answers out d n t' s' a' o'
     → ((c ≡ d) × (m ≡ n) × (o ≡ o')) × ((t ≡ t') × (s ≡ s') × (a ≡ a'))
 misfits-settled p q = (
-  (p.code_is ∙ sym q.code_is, p.count-is ∙ sym q.count-is, p.out-kept ∙ sym q.out-kept),
-  (p.table_kept ∙ sym q.table_kept, p.steps-kept ∙ sym q.steps-kept, p.answers-kept ∙ sym q.answers-kept),
+  (p.code_is ∙ sym q.code_is, p.count_is ∙ sym q.count_is, p.out_kept ∙ sym q.out_kept),
+  (p.table_kept ∙ sym q.table_kept, p.steps_kept ∙ sym q.steps_kept, p.answers_kept ∙ sym q.answers_kept),
 )
 
 -- Two results that the promise allows are equal: code, count and every byte of `out`; without room also every word of the others.
@@ -147,6 +147,6 @@ pub promise-settled : (text table steps answers out : List ℕ) {c d m n : ℕ} 
     → ReplyPromise text table steps answers out c m t s a o → ReplyPromise text table steps answers out d n t' s' a' o'
     → ((c ≡ d) × (m ≡ n) × (o ≡ o')) × ((Room table steps answers out → ⊥) → (t ≡ t') × (s ≡ s') × (a ≡ a'))
 promise-settled text table steps answers out p q = (
-  room-cases table steps answers out (λ room. replied-settled (p.with-room room) (q.with-room room)) (λ small. (misfits-settled (p.without small) (q.without small)).0),
+  room-cases table steps answers out (λ room. replied-settled (p.with_room room) (q.with_room room)) (λ small. (misfits-settled (p.without small) (q.without small)).0),
   λ small. (misfits-settled (p.without small) (q.without small)).1,
 )

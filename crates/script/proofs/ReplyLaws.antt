@@ -12,9 +12,9 @@ use Rattle.lines.specs.Read.{Got, read_sizes}
 use Rattle.lines.proofs.ReadLaws.{read-sizes, sizes-read}
 use Rattle.lines.specs.FeedLaws.{feeds}
 use Rattle.lines.proofs.FeedLaws.{feeds-append, feeds-size_line, feeds-step_line}
-use Rattle.script.specs.Reply.{most_bytes, most_steps, admissible, StepLines, no_lines, next-line, Script, script, BadFirst, too_long, Reply, too-many-bytes, bad-first-line, bad-step-line, too-many-lines, answered}
+use Rattle.script.specs.Reply.{most_bytes, most_steps, admissible, StepLines, no_lines, next_line, Script, script, BadFirst, too_long, Reply, too_many_bytes, bad_first_line, bad_step_line, too_many_lines, answered}
 use Rattle.script.specs.Collect.{Collected, whole, bad_at, sizes_of, collect_from, reply_for, reply_to}
-use Rattle.script.specs.CollectLaws.{Says, all-good, one-bad, goes_on}
+use Rattle.script.specs.CollectLaws.{Says, all_good, one_bad, goes_on}
 use Rattle.script.proofs.CollectLaws.{collect-says, says-collect}
 use Rattle.script.specs.ReplyLaws.{first}
 
@@ -25,7 +25,7 @@ first_read : (text : List ℕ) (z : Size) (rest : List ℕ) → admissible z ≡
 unfolding admissible
 first_read text z rest ok is =
     let b = (within-exactly z).0 (and_left (within z) (leb z.l 128) ok) in
-    ap read_sizes is ∙ sizes-read z (omega (arith, b.few-servers)) (omega (arith, b.few-places)) (omega (arith, b.few-slots)) rest
+    ap read_sizes is ∙ sizes-read z (omega (arith, b.few_servers)) (omega (arith, b.few_places)) (omega (arith, b.few_slots)) rest
 
 -- Where none is read, or one of inadmissible sizes, there is none.
 unread-bad : (text : List ℕ) → read_sizes text ≡ none → BadFirst text
@@ -43,27 +43,27 @@ inadmissible-bad text g e fails z rest ok is =
 behind-found : (text : List ℕ) (z : Size) {rest : List ℕ} {o : Collected} → length text ≤ most_bytes → admissible z ≡ true → text ≡ size_line z ++ rest → Says z most_steps rest o
     → Reply text (reply_for o)
 unfolding reply_for
-behind-found text z short ok is (all-good {xs = xs} lines fit) =
+behind-found text z short ok is (all_good {xs = xs} lines fit) =
     answered short z xs (subst (Script z xs) (sym is) (script ok lines)) fit
-behind-found text z short ok is (one-bad {xs = xs} {front = front} {rest = rest} lines fit bad) =
-    bad-step-line short z xs (size_line z ++ front) rest (script ok lines) (is ∙ sym (append_assoc (size_line z) front rest)) (omega arith) bad
+behind-found text z short ok is (one_bad {xs = xs} {front = front} {rest = rest} lines fit bad) =
+    bad_step_line short z xs (size_line z ++ front) rest (script ok lines) (is ∙ sym (append_assoc (size_line z) front rest)) (omega arith) bad
 behind-found text z short ok is (goes_on {xs = xs} {front = front} rest lines fill there) =
-    too-many-lines short z xs (size_line z ++ front) rest (script ok lines) (is ∙ sym (append_assoc (size_line z) front rest)) fill there
+    too_many_lines short z xs (size_line z ++ front) rest (script ok lines) (is ∙ sym (append_assoc (size_line z) front rest)) fill there
 
 -- With the first line as it was read.
 from_found : (text : List ℕ) → length text ≤ most_bytes → (o : Option (Got Step)) → read_sizes text ≡ o → Reply text (reply_for (collect_from o))
 unfolding collect_from reply_for sizes_of
-from_found text short none e = bad-first-line short (unread-bad text e)
+from_found text short none e = bad_first_line short (unread-bad text e)
 from_found text short (some g) e =
     cond-elim (λ (o : Collected). Reply text (reply_for o)) (admissible (sizes_of g.value))
     (λ ok. behind-found text (sizes_of g.value) short ok (read-sizes text g e) (collect-says (sizes_of g.value) most_steps g.rest))
-    (λ fails. bad-first-line short (inadmissible-bad text g e fails))
+    (λ fails. bad_first_line short (inadmissible-bad text g e fails))
 
 -- What the code finds for a text is a reply to it.
 pub reply-found : (text : List ℕ) → Reply text (reply_to text)
 unfolding reply_to
 reply-found text =
-    cond-elim (λ (out : List ℕ). Reply text out) (ltb most_bytes (length text)) (λ e. too-many-bytes (ltb-true most_bytes (length text) e))
+    cond-elim (λ (out : List ℕ). Reply text out) (ltb most_bytes (length text)) (λ e. too_many_bytes (ltb-true most_bytes (length text) e))
     (λ e. from_found text (ltb-false most_bytes (length text) e) (read_sizes text) refl)
 
 -- ---- there is no other
@@ -93,16 +93,16 @@ behind-one text z {rest} short ok is says =
     sym (short-one text short ∙ ap reply_for (ap collect_from (first_read text z rest ok is) ∙ (cond-true (admissible z) _ _ ok ∙ says-collect z says)))
 
 whole-one : (z : Size) (text : List ℕ) (xs : List Step) → length text ≤ most_bytes → Script z xs text → length xs ≤ most_steps → reply_for (whole z xs) ≡ reply_to text
-whole-one z text xs short (script ok good) fit = behind-one text z short ok refl (all-good good fit)
+whole-one z text xs short (script ok good) fit = behind-one text z short ok refl (all_good good fit)
 
 -- Each reply to a text is what the code finds for it.
 pub reply-one : (text out : List ℕ) → Reply text out → out ≡ reply_to text
 unfolding reply_for
-reply-one text out (too-many-bytes long) = sym (long-one text long)
-reply-one text out (bad-first-line short bad) = sym (short-one text short ∙ ap reply_for (bad-one text bad (read_sizes text) refl))
-reply-one text out (bad-step-line short z xs front rest (script {text = lines} ok good) is fit bad) =
-    behind-one text z short ok (is ∙ append_assoc (size_line z) lines rest) (one-bad good fit bad)
-reply-one text out (too-many-lines short z xs front rest (script {text = lines} ok good) is fill there) =
+reply-one text out (too_many_bytes long) = sym (long-one text long)
+reply-one text out (bad_first_line short bad) = sym (short-one text short ∙ ap reply_for (bad-one text bad (read_sizes text) refl))
+reply-one text out (bad_step_line short z xs front rest (script {text = lines} ok good) is fit bad) =
+    behind-one text z short ok (is ∙ append_assoc (size_line z) lines rest) (one_bad good fit bad)
+reply-one text out (too_many_lines short z xs front rest (script {text = lines} ok good) is fill there) =
     behind-one text z short ok (is ∙ append_assoc (size_line z) lines rest) (goes_on rest good fill there)
 reply-one text out (answered short z xs said fit) = whole-one z text xs short said fit
 
@@ -125,7 +125,7 @@ reply-whole text out said = subst (Reply text) (sym (reply-one (take 16385 text)
 steps-feeds : {xs : List Step} {text : List ℕ} → StepLines xs text → feeds text ≡ length xs
 unfolding feeds
 steps-feeds no_lines = refl
-steps-feeds (next-line {line = line} {text = text} said lines) = omega (arith, feeds-append line text, feeds-step_line said, steps-feeds lines)
+steps-feeds (next_line {line = line} {text = text} said lines) = omega (arith, feeds-append line text, feeds-step_line said, steps-feeds lines)
 
 pub script-feeds : {z : Size} {xs : List Step} {text : List ℕ} → Script z xs text → feeds text ≡ length xs + 1
 script-feeds {z} (script {text = text} ok lines) = omega (arith, feeds-append (size_line z) text, feeds-size_line z, steps-feeds lines)

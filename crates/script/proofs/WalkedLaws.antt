@@ -36,13 +36,13 @@ module _ {words : List ℕ} {n l p count : ℕ} where
   pub put_full : {read : Line} → count ≡ most_steps → PutPromise words (Whole n l p count) read Longer words
   put_full {read} full =
       let test : eqb count most_steps ≡ true = eq-eqb count most_steps full in
-      record { answer-is = sym (cond-true (eqb count most_steps) _ _ test); words_are = sym (cond-true (eqb count most_steps) _ _ test) }
+      record { answer_is = sym (cond-true (eqb count most_steps) _ _ test); words_are = sym (cond-true (eqb count most_steps) _ _ test) }
 
   put-there : {read read' : Line} {left : List ℕ} → (count ≡ most_steps → ⊥) → read ≡ read' → left ≡ words_behind words count read' → PutPromise words (Whole n l p count) read (answer_behind n l p count read') left
   put-there {read} {read'} few e is =
       let test : eqb count most_steps ≡ false = ne_eqb count most_steps few in
       record {
-        answer-is = ap (answer_behind n l p count) (sym e) ∙ sym (cond-false (eqb count most_steps) _ _ test);
+        answer_is = ap (answer_behind n l p count) (sym e) ∙ sym (cond-false (eqb count most_steps) _ _ test);
         words_are = is ∙ (ap (words_behind words count) (sym e) ∙ sym (cond-false (eqb count most_steps) _ _ test));
       }
 
@@ -112,8 +112,8 @@ module _ (text : List ℕ) where
 pub walked_next : (text : Bor (List ℕ)) (before : Reader) (words : List ℕ) (listed : Listed) → before.text ≡ text → Walked text.now before.at listed words → goes_on listed before.at (length text.now) ≡ true
     → 2560 ≤ length words → (read : Line) (after : Reader) → NextPromise before read after → (r : Listed) (left : List ℕ) → PutPromise words listed read r left → Walked text.now after.at r left
 walked_next text before words listed is so more wide read after moved r left put =
-    subst (λ (x : ℕ × (Listed × List ℕ)). Walked text.now x.0 x.1.0 x.1.1) (λ i. (sym (ap (λ h. h.at) moved.moved-is) i, (sym put.answer-is i, sym put.words_are i)))
-    (walked_on text.now before.at words listed so more wide read (subst (λ (t : Bor (List ℕ)). LinePromise t.now (read_line t.now before.at) read) is moved.line-is))
+    subst (λ (x : ℕ × (Listed × List ℕ)). Walked text.now x.0 x.1.0 x.1.1) (λ i. (sym (ap (λ h. h.at) moved.moved_is) i, (sym put.answer_is i, sym put.words_are i)))
+    (walked_on text.now before.at words listed so more wide read (subst (λ (t : Bor (List ℕ)). LinePromise t.now (read_line t.now before.at) read) is moved.line_is))
 
 -- ---- the walk ends
 

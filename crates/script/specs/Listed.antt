@@ -32,7 +32,7 @@ Fits Longer = Unit {0}
 
 -- The promise: the answer and the words say what the text says.
 pub record ListedPromise (text : List ℕ) (r : Listed) (words : List ℕ) : Type 0 where
-  pub found-is : collected_in words r ≡ some (collect_from (read_sizes text))
+  pub found_is : collected_in words r ≡ some (collect_from (read_sizes text))
   pub fits : Fits r
 
 -- The answer for a first line.
@@ -64,7 +64,7 @@ words_with words Longer read = words
 
 -- The promise of what lists one line more.
 pub record PutPromise (words : List ℕ) (listed : Listed) (read : Line) (r : Listed) (left : List ℕ) : Type 0 where
-  pub answer-is : r ≡ answer_with listed read
+  pub answer_is : r ≡ answer_with listed read
   pub words_are : left ≡ words_with words listed read
 
 -- Is there a next line to be listed, in a text of so many bytes that is read up to a place?

@@ -22,7 +22,7 @@ admissible z = within z && leb z.l 128
 -- The lines of these steps, one behind the other.
 pub data StepLines : List Step → List ℕ → Type 0 where
   no_lines : StepLines [] []
-  next-line : {x : Step} {line : List ℕ} {xs : List Step} {text : List ℕ} → StepLine x line → StepLines xs text → StepLines (x ∷ xs) (line ++ text)
+  next_line : {x : Step} {line : List ℕ} {xs : List Step} {text : List ℕ} → StepLine x line → StepLines xs text → StepLines (x ∷ xs) (line ++ text)
 
 -- A text that is the spelling of these sizes and steps.
 pub data Script (z : Size) (xs : List Step) : List ℕ → Type 0 where
@@ -34,8 +34,8 @@ BadFirst text = (z : Size) (rest : List ℕ) → admissible z ≡ true → text 
 
 -- There is more text, and it does not begin with the line of a step.
 pub record BadNext (rest : List ℕ) : Type 0 where
-  pub is-there : 0 < length rest
-  pub is-bad : (x : Step) (line more : List ℕ) → StepLine x line → rest ≡ line ++ more → ⊥
+  pub is_there : 0 < length rest
+  pub is_bad : (x : Step) (line more : List ℕ) → StepLine x line → rest ≡ line ++ more → ⊥
 
 -- ---- what is printed
 
@@ -58,15 +58,15 @@ bad_line k = 98 ∷ 97 ∷ 100 ∷ 32 ∷ 108 ∷ 105 ∷ 110 ∷ 101 ∷ fields
 -- What is printed for a text:
 pub data Reply (text : List ℕ) : List ℕ → Type 0 where
   -- "More bytes than the limit: only `too long`."
-  too-many-bytes : most_bytes < length text → Reply text too_long
+  too_many_bytes : most_bytes < length text → Reply text too_long
   -- "Otherwise the first bad line K among the first 513 lines (from 1; out-of-limit numbers on line 1 count, as does an empty input): only
   -- `bad line K`." The first line is bad,
-  bad-first-line : length text ≤ most_bytes → BadFirst text → Reply text (bad_line 1)
+  bad_first_line : length text ≤ most_bytes → BadFirst text → Reply text (bad_line 1)
   -- or a later one is, behind a good first line and the lines of so many steps.
-  bad-step-line : length text ≤ most_bytes → (z : Size) (xs : List Step) (front rest : List ℕ) → Script z xs front → text ≡ front ++ rest
+  bad_step_line : length text ≤ most_bytes → (z : Size) (xs : List Step) (front rest : List ℕ) → Script z xs front → text ≡ front ++ rest
       → length xs < most_steps → BadNext rest → Reply text (bad_line (length xs + 2))
   -- "Otherwise, if there is a 514th line, good or bad: only `too long`."
-  too-many-lines : length text ≤ most_bytes → (z : Size) (xs : List Step) (front rest : List ℕ) → Script z xs front → text ≡ front ++ rest
+  too_many_lines : length text ≤ most_bytes → (z : Size) (xs : List Step) (front rest : List ℕ) → Script z xs front → text ≡ front ++ rest
       → length xs ≡ most_steps → 0 < length rest → Reply text too_long
   -- Otherwise a line for each answer of the steps, one after another, on a fresh table.
   answered : length text ≤ most_bytes → (z : Size) (xs : List Step) → Script z xs text → length xs ≤ most_steps

@@ -2,7 +2,7 @@
 -- one row of it byte by byte. Assumes nothing.
 use Rattle.std.specs.Prelude.{ℕ, cond, List, [], ◌∷◌, ◌++◌, eqb}
 use Rattle.rules.specs.Step.{Step}
-use Rattle.rules.specs.Rows.{small, ten-steps}
+use Rattle.rules.specs.Rows.{small, ten_steps}
 use Rattle.lines.specs.Line.{fields, size_line}
 
 -- The line of a step of these rows: o, w, r or x, and its numbers.
@@ -18,5 +18,5 @@ lines_of [] = []
 lines_of (x ∷ xs) = line_of x ++ lines_of xs
 
 -- Input `2 4 1` and then the ten step lines.
-abbrev pub ten-in : List ℕ
-ten-in = size_line small ++ lines_of ten-steps
+abbrev pub ten_in : List ℕ
+ten_in = size_line small ++ lines_of ten_steps

@@ -48,7 +48,7 @@ module _ {z : Size} {t : List ℕ} {k : ℕ} (asking : Asking z t k) (i : ℕ) (
       let s = decode z t in
       let w = new_write z s i item value in
       record {
-        answer-is = ap (λ c. record { code = 0; server = i; origin = i; clock = c; value = value }) timed;
+        answer_is = ap (λ c. record { code = 0; server = i; origin = i; clock = c; value = value }) timed;
         table_is = rw (stored, at-vector, at-write, at_last, timed, add-one i)
             (write-stores z s (room-view asking.means) k asking.below (session_in z t k) asking.is_open i h w free);
       }

@@ -30,14 +30,14 @@ module _ (t : List ℕ) {passed : Bool} (so : passed ≡ sound t) where
   pub unsound-promised : (x : Step) {r : Answer} → passed ≡ false → r ≡ refused 1 → StepPromise t x r t
   unsound-promised x nay answer =
       let e = step-unsound t x (sym so ∙ nay) in
-      record { answer-is = answer ∙ sym (ap (λ w. w.answer) e); table_is = sym (ap (λ w. w.table) e) }
+      record { answer_is = answer ∙ sym (ap (λ w. w.answer) e); table_is = sym (ap (λ w. w.table) e) }
 
 -- What is applied to a sound table is the step.
 pub step-promised : {z : Size} {t left : List ℕ} {x : Step} {r : Answer} → Held z t → Applied z t x r left → StepPromise t x r left
 unfolding written
 step-promised {x = x} held applied =
     record {
-      answer-is = applied.answer-is ∙ sym (ap (λ w. w.answer) (step-means held x));
+      answer_is = applied.answer_is ∙ sym (ap (λ w. w.answer) (step-means held x));
       table_is = applied.table_is ∙ sym (ap (λ w. w.table) (step-means held x));
     }
 
@@ -48,6 +48,6 @@ unfolding answer_words
 step-taken r at answers fits promise =
     record {
       table_is = promise.table_is;
-      answers-are =
-          set-five answers at r.code r.server r.origin r.clock r.value fits ∙ ap (λ q. splice at 5 answers (answer_words (q ∷ []))) promise.answer-is;
+      answers_are =
+          set-five answers at r.code r.server r.origin r.clock r.value fits ∙ ap (λ q. splice at 5 answers (answer_words (q ∷ []))) promise.answer_is;
     }

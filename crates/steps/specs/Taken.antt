@@ -12,4 +12,4 @@ step_at ws at =
 -- One step of a list: the table is as the step leaves it, and its answer stands in five words of the buffer, the others being as they were.
 pub record Taken (t : List ℕ) (x : Step) (at : ℕ) (answers left written : List ℕ) : Type 0 where
   pub table_is : left ≡ (step t x).table
-  pub answers-are : written ≡ splice at 5 answers (answer_words ((step t x).answer ∷ []))
+  pub answers_are : written ≡ splice at 5 answers (answer_words ((step t x).answer ∷ []))

@@ -58,11 +58,11 @@ length-steps_of n ws e = omega (arith, length-step_words (steps_of ws), ap lengt
 -- After i steps: the table, and the words of the answers with the rest of the buffer.
 pub record Walking (t steps answers : List ℕ) (i : ℕ) (left written : List ℕ) : Type 0 where
   pub table_is : left ≡ (walk t (take i (steps_of steps))).table
-  pub answers-are : written ≡ answer_words (walk t (take i (steps_of steps))).answers ++ drop (i * 5) answers
+  pub answers_are : written ≡ answer_words (walk t (take i (steps_of steps))).answers ++ drop (i * 5) answers
 
 pub walking-starts : (t steps answers : List ℕ) → Walking t steps answers 0 t answers
 unfolding walk answer_words
-walking-starts t steps answers = record { table_is = refl; answers-are = refl }
+walking-starts t steps answers = record { table_is = refl; answers_are = refl }
 
 pub answer_words-append : (rs qs : List Answer) → answer_words (rs ++ qs) ≡ answer_words rs ++ answer_words qs
 unfolding answer_words
@@ -111,9 +111,9 @@ module _ (t steps answers : List ℕ) (n : ℕ) (whole : length steps ≡ n * 5)
   walking_on i l {left} so taken =
       record {
         table_is = taken.table_is ∙ sym (ap (λ w. w.table) (walk_more i l left so.table_is));
-        answers-are =
-            taken.answers-are
-            ∙ (ap (λ ws. splice (i * 5) 5 ws (answer_words ((step left (step_at steps (i * 5))).answer ∷ []))) so.answers-are
+        answers_are =
+            taken.answers_are
+            ∙ (ap (λ ws. splice (i * 5) 5 ws (answer_words ((step left (step_at steps (i * 5))).answer ∷ []))) so.answers_are
             ∙ (answers-more i l (step left (step_at steps (i * 5))).answer
             ∙ ap (λ rs. answer_words rs ++ drop ((i + 1) * 5) answers) (sym (ap (λ w. w.answers) (walk_more i l left so.table_is)))));
       }
@@ -128,8 +128,8 @@ module _ (t steps answers : List ℕ) (n : ℕ) (whole : length steps ≡ n * 5)
       record {
         code_is = sym (ap (λ r. r.code) ran);
         table_is = so.table_is ∙ (ap (λ xs. (walk t xs).table) all ∙ sym (ap (λ r. r.table) ran));
-        answers-are =
-            so.answers-are
+        answers_are =
+            so.answers_are
             ∙ (ap₂ (λ xs ws. answer_words (walk t xs).answers ++ ws) all none
             ∙ (append-nil (answer_words (walk t (steps_of steps)).answers) ∙ sym (ap (λ r. r.answers) ran)));
       }
@@ -140,7 +140,7 @@ module _ (t steps answers : List ℕ) where
   misfit : lengths_fit steps answers ≡ false → RunPromise t steps answers 8 t answers
   misfit h =
       let r = run-misfits t steps answers h in
-      record { code_is = sym (ap (λ o. o.code) r); table_is = sym (ap (λ o. o.table) r); answers-are = sym (ap (λ o. o.answers) r) }
+      record { code_is = sym (ap (λ o. o.code) r); table_is = sym (ap (λ o. o.table) r); answers_are = sym (ap (λ o. o.answers) r) }
 
   -- Two lengths that differ.
   pub run-differs : (length steps ≡ length answers → ⊥) → RunPromise t steps answers 8 t answers

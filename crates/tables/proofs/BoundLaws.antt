@@ -12,15 +12,15 @@ use Rattle.tables.specs.Layout.{vector_at, count_at, log_at, slot_at, guarantees
 module _ (z : Size) (limits : Within z) where
   -- Where server i's vector begins, from the first,
   pub before_head : (i : ℕ) → i ≤ z.n → i * (z.n + 1) ≤ 272
-  before_head i h = mul-le-mul {n₂ = 16} {m₂ = 17} (omega (arith, limits.few-servers)) (omega (arith, limits.few-servers))
+  before_head i h = mul-le-mul {n₂ = 16} {m₂ = 17} (omega (arith, limits.few_servers)) (omega (arith, limits.few_servers))
 
   -- server i's log,
   pub before-log : (i : ℕ) → i ≤ z.n → i * (z.l * width) ≤ 65536
-  before-log i h = mul-le-mul {n₂ = 16} {m₂ = 4096} (omega (arith, limits.few-servers)) (omega (arith, limits.few-places))
+  before-log i h = mul-le-mul {n₂ = 16} {m₂ = 4096} (omega (arith, limits.few_servers)) (omega (arith, limits.few_places))
 
   -- and slot k.
   pub before-slot : (k : ℕ) → k ≤ z.p → k * (2 * z.n + 2) ≤ 544
-  before-slot k h = mul-le-mul {n₂ = 16} {m₂ = 34} (omega (arith, limits.few-slots)) (omega (arith, limits.few-servers))
+  before-slot k h = mul-le-mul {n₂ = 16} {m₂ = 34} (omega (arith, limits.few_slots)) (omega (arith, limits.few_servers))
 
   -- All vectors with their counts,
   pub heads-bound : z.n * (z.n + 1) ≤ 272

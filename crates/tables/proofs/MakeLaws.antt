@@ -104,8 +104,8 @@ module _ (z : Size) (buffer : List ℕ) where
 
   -- What is made so meets the promise of making.
   pub make_meets : {code : ℕ} {left : List ℕ} → making z buffer ≡ record { code = code; buffer = left } → MakePromise z buffer code left
-  make_meets e = record { code_is = ap (λ m. m.code) (sym e); buffer-is = ap (λ m. m.buffer) (sym e) }
+  make_meets e = record { code_is = ap (λ m. m.code) (sym e); buffer_is = ap (λ m. m.buffer) (sym e) }
 
   -- Two results that the promise of making allows are equal.
   pub make-settled : (c₁ c₂ : ℕ) (l₁ l₂ : List ℕ) → MakePromise z buffer c₁ l₁ → MakePromise z buffer c₂ l₂ → (c₁ ≡ c₂) × (l₁ ≡ l₂)
-  make-settled c₁ c₂ l₁ l₂ p q = (p.code_is ∙ sym q.code_is, p.buffer-is ∙ sym q.buffer-is)
+  make-settled c₁ c₂ l₁ l₂ p q = (p.code_is ∙ sym q.code_is, p.buffer_is ∙ sym q.buffer_is)

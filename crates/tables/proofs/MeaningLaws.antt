@@ -14,7 +14,7 @@ use Rattle.words.specs.CaseLaws.{lt-or-le}
 use Rattle.words.specs.ListLaws.{below_in, below-past, in-nil}
 use Rattle.words.specs.Tests.{zeros}
 use Rattle.words.specs.TestLaws.{and_left, and_right, and_both, all-at, all-make}
-use Rattle.logs.specs.Ascending.{ascending-nil}
+use Rattle.logs.specs.Ascending.{ascending_nil}
 use Rattle.logs.specs.Places.{width, places}
 use Rattle.logs.proofs.PlacesLaws.{length-entries, zeros-places}
 use Rattle.tables.specs.Size.{Size, within}
@@ -90,9 +90,9 @@ module _ (z : Size) (t : List ℕ) (passes : sound_at z (decode z t) t ≡ true)
   f-holds : rule_f z (decode z t) t ≡ true
   f-holds = and_right (rule_e z (decode z t)) _ past-d
 
-  no-server : (i : ℕ) → z.n ≤ i → (decode z t).log i ≡ []
+  no_server : (i : ℕ) → z.n ≤ i → (decode z t).log i ≡ []
   unfolding decode
-  no-server i l = below-past z.n _ [] i l
+  no_server i l = below-past z.n _ [] i l
 
   no-slot : (k : ℕ) → z.p ≤ k → (decode z t).slot k ≡ closed
   unfolding decode
@@ -117,7 +117,7 @@ module _ (z : Size) (t : List ℕ) (passes : sound_at z (decode z t) t ≡ true)
         length-entries count (log_part z t i),
         leb-true count z.l (and_left (leb count z.l) (zeros (drop (count * width) (log_part z t i))) b),
       ))
-      (λ m. omega (arith, ap length (no-server i m))) (lt-or-le i z.n)
+      (λ m. omega (arith, ap length (no_server i m))) (lt-or-le i z.n)
 
   slots-sound : (k : ℕ) → SoundSlot z.n (λ j. (decode z t).vector j j) ((decode z t).slot k)
   slots-sound k =
@@ -127,7 +127,7 @@ module _ (z : Size) (t : List ℕ) (passes : sound_at z (decode z t) t ≡ true)
 
   decoded-state : SoundState z (decode z t)
   decoded-state =
-      rules-sound z (decode z t) fits no-server no-slot outside (and_left (rule_c z (decode z t)) _ past-b)
+      rules-sound z (decode z t) fits no_server no-slot outside (and_left (rule_c z (decode z t)) _ past-b)
       (and_left (rule_d z (decode z t)) _ past-c) (and_left (rule_e z (decode z t)) _ past-d) slots-sound
 
   decoded-words : size_of t ≡ z → encode z (decode z t) ≡ t
@@ -189,7 +189,7 @@ empty-sound z =
       room = λ i. omega arith;
       origins = λ i w m. in-nil m;
       items_fit = λ i w m. in-nil m;
-      ascending = λ i. ascending-nil;
+      ascending = λ i. ascending_nil;
       started = λ i w m. in-nil m;
       gapless = λ i w m. in-nil m;
       covered = λ i w m. in-nil m;

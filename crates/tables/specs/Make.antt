@@ -21,4 +21,4 @@ making z buffer =
 -- The promise of making: the code and every word of the buffer are those of `making`.
 pub record MakePromise (z : Size) (buffer : List ℕ) (code : ℕ) (left : List ℕ) : Type 0 where
   pub code_is : code ≡ (making z buffer).code
-  pub buffer-is : left ≡ (making z buffer).buffer
+  pub buffer_is : left ≡ (making z buffer).buffer

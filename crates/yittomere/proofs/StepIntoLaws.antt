@@ -47,7 +47,7 @@ module _ (t : List ℕ) (x : Step) (buffer : List ℕ) where
   step_into-refused not_done =
       ⊎_elim (λ h.
       let fits = step_into-fits (eqb-true (length buffer) 5 h) in
-      ap (λ r. r.table) fits ∙ (step-refused t x (λ e. not_done (ap (λ r. r.code) fits ∙ e))).same-words)
+      ap (λ r. r.table) fits ∙ (step-refused t x (λ e. not_done (ap (λ r. r.code) fits ∙ e))).same_words)
       (λ h. ap (λ r. r.table) (step_into-misfits (eqb-false (length buffer) 5 h))) (either (eqb (length buffer) 5))
 
   pub step_into-zeros : ((step_into t x buffer).code ≡ 0 → ⊥) → length buffer ≡ 5 → (step_into t x buffer).answers ≡ (step_into t x buffer).code ∷ 0 ∷ 0 ∷ 0 ∷ 0 ∷ []
@@ -56,7 +56,7 @@ module _ (t : List ℕ) (x : Step) (buffer : List ℕ) where
       let fits = step_into-fits h in
       let refusal : Refusal t x = step-refused t x (λ e. not_done (ap (λ r. r.code) fits ∙ e)) in
       ap (λ r. r.answers) fits
-      ∙ λ i. (sym (ap (λ r. r.code) fits) i ∷ refusal.no-server i ∷ refusal.no_origin i ∷ refusal.no-clock i ∷ refusal.no_value i ∷ [])
+      ∙ λ i. (sym (ap (λ r. r.code) fits) i ∷ refusal.no_server i ∷ refusal.no_origin i ∷ refusal.no_clock i ∷ refusal.no_value i ∷ [])
 
   -- ---- a run of one step
 
@@ -91,7 +91,7 @@ module _ (t : List ℕ) (x : Step) (buffer : List ℕ) where
   pub step_into-nothing : (length buffer ≡ 5 → ⊥) → StepIntoPromise t x buffer 8 t buffer
   step_into-nothing h =
       let e = sym (step_into-misfits h) in
-      record { code_is = ap (λ r. r.code) e; table_is = ap (λ r. r.table) e; answer-is = ap (λ r. r.answers) e }
+      record { code_is = ap (λ r. r.code) e; table_is = ap (λ r. r.table) e; answer_is = ap (λ r. r.answers) e }
 
   -- or the answer stored word by word.
   pub step_into-stored : length buffer ≡ 5 → (r : Answer) → {left : List ℕ} → StepPromise t x r left
@@ -100,13 +100,13 @@ module _ (t : List ℕ) (x : Step) (buffer : List ℕ) where
       let e = sym (step_into-fits h) in
       let taken = step-taken r 0 buffer (omega arith) promise in
       record {
-        code_is = ap (λ q. q.code) promise.answer-is ∙ ap (λ q. q.code) e;
+        code_is = ap (λ q. q.code) promise.answer_is ∙ ap (λ q. q.code) e;
         table_is = promise.table_is ∙ ap (λ q. q.table) e;
-        answer-is = taken.answers-are ∙ (splice_all buffer 5 _ h ∙ ap (λ q. q.answers) e);
+        answer_is = taken.answers_are ∙ (splice_all buffer 5 _ h ∙ ap (λ q. q.answers) e);
       }
 
 -- Two results that the promise allows are equal.
 pub step_into-settled : (t : List ℕ) (x : Step) (buffer : List ℕ) (c₁ c₂ : ℕ) (l₁ l₂ w₁ w₂ : List ℕ) → StepIntoPromise t x buffer c₁ l₁ w₁ → StepIntoPromise t x buffer c₂ l₂ w₂
     → (c₁ ≡ c₂) × (l₁ ≡ l₂) × (w₁ ≡ w₂)
 step_into-settled t x buffer c₁ c₂ l₁ l₂ w₁ w₂ p q =
-    (p.code_is ∙ sym q.code_is, p.table_is ∙ sym q.table_is, p.answer-is ∙ sym q.answer-is)
+    (p.code_is ∙ sym q.code_is, p.table_is ∙ sym q.table_is, p.answer_is ∙ sym q.answer_is)

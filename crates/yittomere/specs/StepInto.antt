@@ -16,4 +16,4 @@ step_into t x buffer =
 pub record StepIntoPromise (t : List ℕ) (x : Step) (buffer : List ℕ) (code : ℕ) (left written : List ℕ) : Type 0 where
   pub code_is : code ≡ (step_into t x buffer).code
   pub table_is : left ≡ (step_into t x buffer).table
-  pub answer-is : written ≡ (step_into t x buffer).answers
+  pub answer_is : written ≡ (step_into t x buffer).answers

@@ -1,5 +1,5 @@
 -- `applying::apply` meets its contract, kind by kind.
-use Rattle.applying.specs.KindLaws.{kind_1, kind_2, kind_3, kind-4, kind-5, kind-other, step-applied, bad-comes}
+use Rattle.applying.specs.KindLaws.{kind_1, kind_2, kind_3, kind_4, kind_5, kind-other, step-applied, bad-comes}
 use Rattle.applying.specs.Asked.{step_of}
 use native.Mathlib.Omega.{arith}
 use Rattle.applying.proofs.apply.Goals as goal
@@ -14,10 +14,10 @@ pub returns-in-3 : goal.returns-in-3
 returns-in-3 c = step-applied c.requires _ (kind_3 _ _ c.in-3.is) c.reading.ensures
 
 pub returns-in-4 : goal.returns-in-4
-returns-in-4 c = step-applied c.requires _ (kind-4 _ _ c.in-4.is) c.writing.ensures
+returns-in-4 c = step-applied c.requires _ (kind_4 _ _ c.in-4.is) c.writing.ensures
 
 pub returns-in-5 : goal.returns-in-5
-returns-in-5 c = step-applied c.requires _ (kind-5 _ _ c.in-5.is) c.exchanging.ensures
+returns-in-5 c = step-applied c.requires _ (kind_5 _ _ c.in-5.is) c.exchanging.ensures
 
 pub returns-in_default : goal.returns-in_default
 returns-in_default c =

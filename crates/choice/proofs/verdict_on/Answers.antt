@@ -5,10 +5,10 @@ use native.Mathlib.Omega.{arith}
 use Rattle.choice.proofs.verdict_on.Goals as goal
 
 pub overflow_cast-i : goal.overflow_cast-i
-overflow_cast-i c = omega (arith, (within-view c.requires.0.means).few-servers)
+overflow_cast-i c = omega (arith, (within-view c.requires.0.means).few_servers)
 
 pub overflow_shr-reach : goal.overflow_shr-reach
-overflow_shr-reach c = omega (arith, (within-view c.requires.0.means).few-servers)
+overflow_shr-reach c = omega (arith, (within-view c.requires.0.means).few_servers)
 
 pub returns-then-writing : goal.returns-then-writing
 returns-then-writing c = write-reached _ _ _ _ _ _ c.if-reach-i-eq1.true c.if-writing.true c.write_verdict.ensures

@@ -7,8 +7,8 @@ pub returns : goal.returns
 returns g c =
     let served = c.serve.ensures in
     record {
-      worked = served-work served.served (record { for-table = omega arith; for-steps = omega arith; for-answers = omega arith; for-out = omega arith }) (omega arith);
+      worked = served-work served.served (record { for_table = omega arith; for_steps = omega arith; for_answers = omega arith; for_out = omega arith }) (omega arith);
       answered =
-          served-answered served.served (record { for-table = omega arith; for-steps = omega arith; for-answers = omega arith; for-out = omega arith })
+          served-answered served.served (record { for_table = omega arith; for_steps = omega arith; for_answers = omega arith; for_out = omega arith })
           c.serve.result.ended c.serve.result.written _ _ _ (omega arith) served.input served.output;
     }

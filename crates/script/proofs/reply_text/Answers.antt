@@ -15,7 +15,7 @@ reply_answers-requires c =
     record { z_value = (ap admissible c.new.ensures ∙ fits.0, fits.1); room = search rules }
 
 pub bad_line-requires : goal.bad_line-requires
-bad_line-requires c = bad_line-fits _ c.args.out.now (search rules) c.requires.for-out
+bad_line-requires c = bad_line-fits _ c.args.out.now (search rules) c.requires.for_out
 
 pub returns-in-Whole : goal.returns-in-Whole
 returns-in-Whole c = listed-whole _ c.if-text-gt-MOST_BYTES.false c.collect.ensures c.in-Whole.is c.new.ensures c.reply_answers.ensures

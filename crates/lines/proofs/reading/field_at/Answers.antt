@@ -8,7 +8,7 @@ pub overflow_add-at : goal.overflow_add-at
 overflow_add-at c = omega (arith, begins-within c.args.text.now c.args.at _ c.is_at.ensures c.if-is_at.true)
 
 pub returns-then-is_at : goal.returns-then-is_at
-returns-then-is_at c = record { found-is = c.number_at.ensures.found-is ∙ field-there c.args.text.now c.args.at c.is_at.ensures c.if-is_at.true; within = c.number_at.ensures.within }
+returns-then-is_at c = record { found_is = c.number_at.ensures.found_is ∙ field-there c.args.text.now c.args.at c.is_at.ensures c.if-is_at.true; within = c.number_at.ensures.within }
 
 pub returns : goal.returns
-returns c = record { found-is = field-not-there c.args.text.now c.args.at c.is_at.ensures c.if-is_at.false; within = tt }
+returns c = record { found_is = field-not-there c.args.text.now c.args.at c.is_at.ensures c.if-is_at.false; within = tt }

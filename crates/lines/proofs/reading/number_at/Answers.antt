@@ -7,10 +7,10 @@ use native.Mathlib.Omega.{arith}
 use Rattle.lines.proofs.reading.number_at.Goals as goal
 
 pub returns-then-text-at : goal.returns-then-text-at
-returns-then-text-at c = record { found-is = number-nothing _ _ c.if-text-at.true; within = tt }
+returns-then-text-at c = record { found_is = number-nothing _ _ c.if-text-at.true; within = tt }
 
 pub returns-then-not-is_digit : goal.returns-then-not-is_digit
-returns-then-not-is_digit c = record { found-is = number-no-digit _ _ c.if-text-at.false (sym c.is_digit.ensures ∙ c.if-not-is_digit.true); within = tt }
+returns-then-not-is_digit c = record { found_is = number-no-digit _ _ c.if-text-at.false (sym c.is_digit.ensures ∙ c.if-not-is_digit.true); within = tt }
 
 pub overflow_sub-byte : goal.overflow_sub-byte
 overflow_sub-byte c = omega (arith, digit_low _ (sym c.is_digit.ensures ∙ c.if-not-is_digit.false))
@@ -19,7 +19,7 @@ pub overflow_cast-byte : goal.overflow_cast-byte
 overflow_cast-byte c = omega (arith, digit-high _ (sym c.is_digit.ensures ∙ c.if-not-is_digit.false))
 
 pub returns-then-byte-ne48 : goal.returns-then-byte-ne48
-returns-then-byte-ne48 c = record { found-is = c.more_digits.ensures.found-is ∙ number_digits _ _ c.if-text-at.false (sym c.is_digit.ensures ∙ c.if-not-is_digit.false) c.if-byte-ne48.true; within = c.more_digits.ensures.within }
+returns-then-byte-ne48 c = record { found_is = c.more_digits.ensures.found_is ∙ number_digits _ _ c.if-text-at.false (sym c.is_digit.ensures ∙ c.if-not-is_digit.false) c.if-byte-ne48.true; within = c.more_digits.ensures.within }
 
 pub returns : goal.returns
-returns c = record { found-is = number-zero _ _ c.if-text-at.false (sym c.is_digit.ensures ∙ c.if-not-is_digit.false) c.if-byte-ne48.false; within = search rules }
+returns c = record { found_is = number-zero _ _ c.if-text-at.false (sym c.is_digit.ensures ∙ c.if-not-is_digit.false) c.if-byte-ne48.false; within = search rules }

@@ -19,7 +19,7 @@ walked_in {text} {before} {after} {words} {left} {listed} {r} {read} is so more 
 pub loop-r-preserved : goal.loop-r-preserved
 loop-r-preserved c =
     record {
-      same_text = ap (λ h. h.text.now) c.next-line.ensures.moved-is ∙ c.loop-r.invariant.same_text;
+      same_text = ap (λ h. h.text.now) c.next-line.ensures.moved_is ∙ c.loop-r.invariant.same_text;
       long = omega arith;
       so = walked_in c.loop-r.invariant.same_text c.loop-r.invariant.so (sym c.goes_on.ensures ∙ c.loop-r-test.true) c.loop-r.invariant.long c.next-line.ensures c.put_line-listed.ensures;
     }

@@ -22,4 +22,4 @@ pub returns-then-self-lt1-3 : goal.returns-then-self-lt1-3
 returns-then-self-lt1-3 c = sym (within-fails _ (λ b. omega arith))
 
 pub returns : goal.returns
-returns c = same_test _ _ (λ e. (within-exactly _).1 (omega (arith, leb-true))) (λ e. le-leb _ _ ((within-exactly _).0 e).few-slots)
+returns c = same_test _ _ (λ e. (within-exactly _).1 (omega (arith, leb-true))) (λ e. le-leb _ _ ((within-exactly _).0 e).few_slots)

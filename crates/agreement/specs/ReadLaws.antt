@@ -1,9 +1,8 @@
 -- What the words that a test of rule c, d or e reads mean: vectors and logs of a table, against the state that the table decodes to. Assumes
 -- nothing.
 use Rattle.std.specs.Prelude.{ℕ, ◌+◌, ◌*◌, ◌<◌, ◌≤◌, Bool, List, ◌≡◌, leb, get_or}
-use Rattle.std.proofs.Common.{sym, ◌∙◌, ap₂, arith}
+use Rattle.std.proofs.Common.{sym, ◌∙◌, ap₂, arith, leb-true}
 use Rattle.std.proofs.Math.Path.{ap}
-use borrow.Author.Tests.{leb-true}
 use Rattle.std.proofs.Math.ListN.{length}
 use Rattle.words.specs.Lists.{part}
 use Rattle.words.specs.ListLaws.{below_in}

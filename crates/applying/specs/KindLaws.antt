@@ -1,9 +1,8 @@
 -- A step is told apart by its kind: what is asked for each kind word, and that a step so done is the rules' step and keeps the table
 -- sound. Assumes nothing.
 use Rattle.std.specs.Prelude.{ℕ, ◌<◌, Bool, true, false, List, ◌≡◌, refl, eqb}
-use Rattle.std.proofs.Common.{sym, ◌∙◌, subst}
+use Rattle.std.proofs.Common.{sym, ◌∙◌, subst, ne_eqb, ltb-true}
 use Rattle.std.proofs.Math.Path.{ap}
-use borrow.Author.Tests.{ne_eqb, ltb-true}
 use Rattle.words.specs.TestLaws.{cond-true, cond-false, and_left, and_right}
 use Rattle.tables.specs.Size.{Size, sums}
 use Rattle.tables.specs.State.{State}

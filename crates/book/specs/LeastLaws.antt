@@ -1,4 +1,4 @@
--- The least writes of a set are the first of the log that has the set's members. Assumes nothing.
+-- A set without one of its writes, by which the theorems of proofs/LeastLaws.antt go down a set. Assumes nothing.
 use Rattle.std.specs.Prelude.{not, List}
 use Rattle.words.specs.Lists.{keep}
 use Rattle.logs.specs.Write.{Write, same}

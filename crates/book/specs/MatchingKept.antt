@@ -1,5 +1,4 @@
--- What keeps a book matching a state: a slot set in both, writes that arrive in both, and vectors that go on standing for sets.
--- Assumes nothing.
+-- What keeps a book matching a state: a slot set in both, and writes that arrive in both. The theorems stand in proofs/MatchingKept.antt. Assumes nothing.
 use Rattle.std.specs.Prelude.{ℕ, ◌+◌, List, ◌⊎◌, ◌≡◌, length}
 use Rattle.words.specs.Lists.{In}
 use Rattle.logs.specs.Write.{Write}

@@ -1,5 +1,4 @@
--- From one moment of a schedule to a later one: the states that the tables mean, what servers keep, what a session remembers, and which
--- write precedes which. Assumes nothing.
+-- The state behind a list of steps. What holds from one moment to a later one stands in proofs/Moments.antt. Assumes nothing.
 use Rattle.std.specs.Prelude.{List, [], ◌∷◌}
 use Rattle.tables.specs.Size.{Size}
 use Rattle.tables.specs.State.{State}

@@ -1,4 +1,4 @@
--- The newest write on an item of a set is the last on it in the log that has the set's members. Assumes nothing.
+-- What the newest write on an item is, among the writes of a set. That the log's last one is it stands in proofs/NewestLaws.antt. Assumes nothing.
 use Rattle.std.specs.Prelude.{ℕ, false, List, ◌≡◌}
 use Rattle.words.specs.Lists.{In}
 use Rattle.logs.specs.Write.{Write, before}

@@ -1,4 +1,5 @@
--- What a session chose is what its opening asked for, from the accepted open of its slot to the accepted close. Assumes nothing.
+-- A slot that holds a session with the guarantees that were asked for. That it does from the accepted open to the accepted close stands in
+-- proofs/Opening.antt. Assumes nothing.
 use Rattle.std.specs.Prelude.{ℕ, List, ◌≡◌}
 use Rattle.tables.specs.State.{Session, opened}
 use Rattle.tables.specs.Layout.{size_of, decode}

@@ -1,5 +1,4 @@
--- A write that a server accepts follows, at every server and for ever, each write that its server held: C1 orders it behind, and C2 lets
--- it travel no faster. Assumes nothing.
+-- One write precedes another, at every server that stores the second. Why that lasts stands in proofs/Propagation.antt. Assumes nothing.
 use Rattle.std.specs.Prelude.{ℕ, true, ◌≡◌}
 use Rattle.words.specs.Lists.{In}
 use Rattle.logs.specs.Write.{Write, before}

@@ -1,4 +1,4 @@
--- What a session remembers of its reads and writes, and why a server that passes its check stores all of it. Assumes nothing.
+-- What a session remembers by one of its vectors. Why a server that passes its check stores all of it stands in proofs/Remembering.antt. Assumes nothing.
 use Rattle.std.specs.Prelude.{ℕ, ◌≤◌, ◌≡◌}
 use Rattle.words.specs.Lists.{In}
 use Rattle.logs.specs.Write.{Write}

@@ -1,4 +1,4 @@
--- What a session remembers from one step to the next, as long as it is not closed. Assumes nothing.
+-- What a session keeps from one step to the next, as long as it is not closed. The theorems stand in proofs/Session.antt. Assumes nothing.
 use Rattle.std.specs.Prelude.{ℕ, ◌≤◌, ◌≡◌}
 use Rattle.tables.specs.State.{Session, opened, State}
 

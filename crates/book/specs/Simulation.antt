@@ -1,4 +1,4 @@
--- A book that matches a sound state answers every step alike and still matches after it. Assumes nothing.
+-- An outcome of the rules and one of the book that answer alike and still match. That all of them do stands in proofs/Simulation.antt. Assumes nothing.
 use Rattle.std.specs.Prelude.{◌≡◌}
 use Rattle.rules.specs.Rules.{Outcome}
 use Rattle.book.specs.Book.{BookOutcome}

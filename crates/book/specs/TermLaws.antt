@@ -1,5 +1,4 @@
--- The terms of Terms.antt leave out no step that they should hold of; and a session begins exactly with an accepted open of its slot, and ends
--- exactly with an accepted close of it. Assumes nothing.
+-- An accepted step on a slot, as the theorems of proofs/TermLaws.antt have it. Assumes nothing.
 use Rattle.std.specs.Prelude.{ℕ, List, ◌≡◌}
 use Rattle.rules.specs.Step.{Step}
 use Rattle.rules.specs.Calls.{step}

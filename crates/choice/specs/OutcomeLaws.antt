@@ -1,6 +1,6 @@
--- The search in the loop's order finds what the rules' two searches find, and that is what the rules answer. Assumes nothing.
-use Prim.Native.Nat.{ℕ}
-use Rattle.std.specs.Prelude.{Bool, ◌≡◌}
+-- What the search has found so far, in the loop's order, and an answer as the search's outcome. That it is what the rules answer stands in
+-- proofs/OutcomeLaws.antt. Assumes nothing.
+use Rattle.std.specs.Prelude.{Bool, ◌≡◌, ℕ}
 use Rattle.std.proofs.Math.Bool.{true, false}
 use Rattle.rules.specs.Step.{Answer}
 use Rattle.choice.specs.Outcome.{Valued}

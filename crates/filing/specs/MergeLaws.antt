@@ -1,8 +1,7 @@
 -- What holds of a merge from the back: how it begins, each write that moves to its place, and how it ends. Assumes nothing.
 use Rattle.std.specs.Prelude.{ℕ, zero, suc, ◌+◌, ◌-◌, ◌*◌, ◌<◌, ◌≤◌, true, false, List, [], ◌∷◌, ◌++◌, ◌≡◌, refl, ltb, length, drop}
-use Rattle.std.proofs.Common.{append-nil, append_assoc, sym, ◌∙◌, ap, subst, arith}
+use Rattle.std.proofs.Common.{append-nil, append_assoc, sym, ◌∙◌, ap, subst, arith, ltb-true, lt-ltb, le-ltb}
 use Rattle.std.proofs.Math.Path.{ap₂}
-use borrow.Author.Tests.{ltb-true, lt-ltb, le-ltb}
 use Rattle.words.specs.Lists.{In}
 use Rattle.words.specs.ListLaws.{in-nil}
 use Rattle.words.specs.TestLaws.{and_left, and_right, and_both, true-not-false, not-true-false}

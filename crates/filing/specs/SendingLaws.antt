@@ -1,8 +1,7 @@
 -- What holds of a vector that follows one write more, and of what a server lacks of a log's first places. Assumes nothing.
-use Rattle.std.specs.Prelude.{ℕ, ◌+◌, ◌-◌, ◌*◌, ◌<◌, ◌≤◌, ◌≡◌, refl, ltb, length, set, take, drop}
-use mathlib.Core.List.{List, [], ◌∷◌, ◌++◌, append-nil}
+use Rattle.std.specs.Prelude.{ℕ, ◌+◌, ◌-◌, ◌*◌, ◌<◌, ◌≤◌, ◌≡◌, refl, ltb, length, set, take, drop, List, [], ◌∷◌, ◌++◌}
 use Rattle.std.proofs.Math.Path.{sym, ap}
-use Rattle.std.proofs.Common.{◌∙◌, ap₂, subst, arith, lt-ltb, le-ltb, length-append, take_at}
+use Rattle.std.proofs.Common.{◌∙◌, ap₂, subst, arith, lt-ltb, le-ltb, length-append, take_at, append-nil}
 use Rattle.words.specs.Lists.{In, keep, row, upd}
 use Rattle.words.specs.KeepLaws.{keep_append}
 use Rattle.words.specs.SetLaws.{set-row}

@@ -26,8 +26,8 @@ fn send_if_lacking(vector: &[u32], w: Entry, batch: &mut [u32], k: usize) -> usi
 
 // Copies to the batch the first writes that the vector lacks, at most so many, and answers how many there were.
 pub fn lacking(log: &[u32], count: usize, vector: &[u32], most: usize, batch: &mut [u32]) -> usize
-    requires count_in_bounds { (count * 4 ≤ length log.now) × (most * 4 ≤ length batch.old) }
-    requires origin_in_bounds { (w : Write) → In w (entries count log.now) → w.origin < length vector.now }
+    requires places { (count * 4 ≤ length log.now) × (most * 4 ≤ length batch.old) }
+    requires origins { (w : Write) → In w (entries count log.now) → w.origin < length vector.now }
     ensures how_many { result ≡ min (length (lacking (vector_of vector.now) (entries count log.now))) most }
     ensures which { entries result batch.new ≡ take result (lacking (vector_of vector.now) (entries count log.now)) }
 {
@@ -46,8 +46,8 @@ pub fn lacking(log: &[u32], count: usize, vector: &[u32], most: usize, batch: &m
 
 // Lets a vector follow the first k writes of a batch: each sets its origin's component to its clock.
 pub fn follow(vector: &mut [u32], batch: &[u32], k: usize)
-    requires k_in_bounds { k * 4 ≤ length batch.now }
-    requires origin_in_bounds { (w : Write) → In w (entries k batch.now) → w.origin < length vector.old }
+    requires places { k * 4 ≤ length batch.now }
+    requires origins { (w : Write) → In w (entries k batch.now) → w.origin < length vector.old }
     ensures { vector.new ≡ row (length vector.old) (follow (entries k batch.now) (vector_of vector.old)) }
 {
     let mut e = 0;

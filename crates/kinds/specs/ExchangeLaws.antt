@@ -1,6 +1,5 @@
 -- What an exchange reads of a table and makes of its words: what the rules say. Assumes nothing.
-use Rattle.std.specs.Prelude.{ℕ, ◌+◌, ◌-◌, ◌<◌, ◌≤◌, min, ◌≡◌, refl, eqb, drop}
-use mathlib.Core.List.{List, ◌++◌}
+use Rattle.std.specs.Prelude.{ℕ, ◌+◌, ◌-◌, ◌<◌, ◌≤◌, min, ◌≡◌, refl, eqb, drop, List, ◌++◌}
 use Rattle.std.proofs.Common.{sym, ◌∙◌, arith, eq-eqb, ne_eqb}
 use Rattle.std.proofs.Math.Path.{ap, ap₂, subst}
 use Rattle.std.proofs.Math.ListN.{length, get_or, take}

@@ -1,6 +1,5 @@
 -- What a table's words are when a slot was opened or closed, and when that was refused: those that the rules say. Assumes nothing.
-use Rattle.std.specs.Prelude.{ℕ, suc, ◌+◌, ◌-◌, ◌*◌, ◌<◌, ◌≡◌, length, get_or, take, drop}
-use mathlib.Core.List.{List, ◌++◌}
+use Rattle.std.specs.Prelude.{ℕ, suc, ◌+◌, ◌-◌, ◌*◌, ◌<◌, ◌≡◌, length, get_or, take, drop, List, ◌++◌}
 use Rattle.std.proofs.Common.{sym, ◌∙◌, ap₂, add-one, arith}
 use Rattle.std.proofs.Math.Path.{ap}
 use Rattle.std.proofs.Math.ListN.{set, replicate}

@@ -1,4 +1,4 @@
--- Reading a number finds exactly the numbers' spellings. Assumes nothing.
+-- A text that begins with no digit, and one that begins with a number's spelling. That reading finds exactly these stands in proofs/DigitLaws.antt. Assumes nothing.
 use Rattle.std.specs.Prelude.{ℕ, ◌≤◌, false, List, [], ◌∷◌, ◌++◌, ◌≡◌}
 use Rattle.lines.specs.Decimal.{decimal, greatest}
 use Rattle.lines.specs.Read.{Got, is_digit}

@@ -1,4 +1,4 @@
--- A line has one line feed, and it stands at its end: so the lines of a text are told apart by its line feeds. Assumes nothing.
+-- How many line feeds a text has. That the lines of a text are told apart by them stands in proofs/FeedLaws.antt. Assumes nothing.
 use Rattle.std.specs.Prelude.{ℕ, ◌+◌, cond, List, [], ◌∷◌, eqb}
 
 -- How many line feeds a text has.

@@ -1,6 +1,5 @@
--- A line's numbers, one after another: what has been put in words so far, and what is still to come. Assumes nothing.
-use Prim.Native.Nat.{ℕ}
-use Rattle.std.specs.Prelude.{List, ◌++◌}
+-- Numbers that were read and the reading of those behind them, joined. The theorems stand in proofs/FieldLaws.antt. Assumes nothing.
+use Rattle.std.specs.Prelude.{List, ◌++◌, ℕ}
 use Rattle.std.proofs.Math.Option.{Option, none, some}
 use Rattle.lines.specs.Read.{Got}
 

@@ -1,4 +1,4 @@
--- What is known of readings that found something. Assumes nothing.
+-- Two readings, one behind the other, that both found something. What is known of them stands in proofs/GotLaws.antt. Assumes nothing.
 use Rattle.std.specs.Prelude.{ℕ, List, ◌≡◌}
 use Rattle.std.proofs.Math.Option.{Option, some}
 use Rattle.lines.specs.Read.{Got}

@@ -1,4 +1,4 @@
--- Reading a line finds exactly the lines' spellings. Assumes nothing.
+-- What a text begins with when a number, numbers or a step were read. That reading finds exactly the spellings stands in proofs/ReadLaws.antt. Assumes nothing.
 use Rattle.std.specs.Prelude.{ℕ, zero, suc, List, [], ◌∷◌, ◌++◌, ◌≡◌}
 use Rattle.rules.specs.Step.{Step}
 use Rattle.lines.specs.Decimal.{decimal}

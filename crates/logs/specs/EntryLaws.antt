@@ -1,6 +1,5 @@
--- What holds of a log's first places, of a place into which a write is put, and of a log that has grown. Assumes nothing.
-use Prim.Native.Nat.{ℕ, ◌*◌}
-use mathlib.Core.List.{List, [], ◌∷◌}
+-- A log's words with a write put into a place. What holds of it stands in proofs/EntryLaws.antt. Assumes nothing.
+use Rattle.std.specs.Prelude.{ℕ, ◌*◌, List, [], ◌∷◌}
 use Rattle.words.specs.Lists.{splice}
 use Rattle.logs.specs.Write.{Write}
 use Rattle.logs.specs.Places.{spelled}

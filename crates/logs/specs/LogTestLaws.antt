@@ -1,5 +1,4 @@
--- What rules d and e of Rules.antt, on a log and a vector and on two logs, say by membership, and back. Rule c is in OrderedLaws.antt.
--- Assumes nothing.
+-- 01, rule e, of two logs and one origin, by membership. That the test says the same, and of rule d, stands in proofs/LogTestLaws.antt. Assumes nothing.
 use Rattle.std.specs.Prelude.{ℕ, ◌≤◌, List, ◌≡◌}
 use Rattle.words.specs.Lists.{In}
 use Rattle.logs.specs.Write.{Write}

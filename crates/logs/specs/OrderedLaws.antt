@@ -1,6 +1,5 @@
--- What rule c of Rules.antt, on one log by itself, says by membership, and back. Assumes nothing.
-use Rattle.std.specs.Prelude.{ℕ, suc, ◌<◌, ◌≤◌, ◌≡◌}
-use mathlib.Core.List.{List}
+-- 01, rule c, of one log by itself, by membership. That the test says the same stands in proofs/OrderedLaws.antt. Assumes nothing.
+use Rattle.std.specs.Prelude.{ℕ, suc, ◌<◌, ◌≤◌, ◌≡◌, List}
 use Rattle.words.specs.Lists.{In}
 use Rattle.logs.specs.Write.{Write}
 use Rattle.logs.specs.Ascending.{Ascending}

@@ -1,4 +1,4 @@
--- What holds of the write order and of sameness. Assumes nothing.
+-- Two writes with one identifier. What holds of the write order and of sameness stands in proofs/WriteLaws.antt. Assumes nothing.
 use Rattle.std.specs.Prelude.{◌≡◌}
 use Rattle.logs.specs.Write.{Write}
 

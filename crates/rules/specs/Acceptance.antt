@@ -1,5 +1,5 @@
--- When a step on words is done, kind by kind: each code of 01's table but 0 is a refusal, and what is left when none applies is said here by
--- itself. Assumes nothing.
+-- When a step on words is done: each code of 01's table but 0 is a refusal, and what is left when none applies has words of its own. The
+-- theorems, kind by kind, stand in proofs/Acceptance.antt. Assumes nothing.
 use Rattle.std.specs.Prelude.{ℕ, true, List, ◌↔◌, ◌≡◌}
 use Rattle.tables.specs.State.{Session, State, opened}
 use Rattle.tables.specs.Layout.{size_of}

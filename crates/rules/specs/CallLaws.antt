@@ -1,4 +1,4 @@
--- What holds of a step on words and of steps one after another, for any table. Assumes nothing.
+-- How a step may end, and what a refusal is, on words. What holds of steps for any table stands in proofs/CallLaws.antt. Assumes nothing.
 use Rattle.std.specs.Prelude.{ℕ, ◌≤◌, List, ◌≡◌}
 use Rattle.tables.specs.State.{State}
 use Rattle.rules.specs.Step.{Step, Answer, refused}

@@ -1,4 +1,4 @@
--- What holds of the search order and of reach. Assumes nothing.
+-- A reach set as the sum of its bits, and the servers from one on. What holds of the search order and of reach stands in proofs/ChoiceLaws.antt. Assumes nothing.
 use Rattle.std.specs.Prelude.{ℕ, zero, suc, ◌+◌, ◌^◌, Bool, cond, List, [], ◌∷◌}
 use Rattle.rules.specs.Choice.{reaches, read_your_writes, monotonic_reads, writes_follow_reads, monotonic_writes}
 

@@ -1,4 +1,5 @@
--- 01, "Up to date", in plain terms: what the check of one server asks, component by component. Assumes nothing.
+-- 01, "Up to date", in plain terms: what the check of one server asks, component by component. That it is what the rules ask stands in
+-- proofs/CurrentLaws.antt. Assumes nothing.
 use Rattle.std.specs.Prelude.{ℕ, ◌<◌, ◌≤◌, Bool, true, ◌≡◌}
 use Rattle.tables.specs.State.{Session}
 

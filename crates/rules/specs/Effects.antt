@@ -1,5 +1,4 @@
--- What a step does, in six cases. Later facts about what steps leave go by these cases.
--- Assumes nothing.
+-- What a step does, in six cases. That every step is one of them stands in proofs/Effects.antt; later facts about what steps leave go by these. Assumes nothing.
 use Rattle.std.specs.Prelude.{ℕ, ◌≤◌, ◌≡◌}
 use Rattle.logs.specs.Log.{last_on}
 use Rattle.tables.specs.Size.{Size}

@@ -1,4 +1,5 @@
--- The words of the buyer's second demand, of the step on words that the delivered calls promise. Assumes nothing.
+-- Some server is reachable, and none that is passes a check: the words of the buyer's second demand. When exactly a step is "behind" stands in
+-- proofs/Exact.antt. Assumes nothing.
 use Rattle.std.specs.Prelude.{ℕ, ◌<◌, Bool, true, false, List, ◌≡◌}
 use Rattle.tables.specs.Size.{Size}
 use Rattle.tables.specs.State.{Session, State}

@@ -1,4 +1,4 @@
--- 01, "The desk program": the ten rows, as one statement over one list. Assumes nothing.
+-- 01, "The desk program": the ten rows, as one list. That they hold of the rules is one statement, in proofs/Rows.antt. Assumes nothing.
 use Rattle.std.specs.Prelude.{ℕ, List, [], ◌∷◌, map}
 use Rattle.tables.specs.Size.{Size}
 use Rattle.rules.specs.Step.{Step, Answer}

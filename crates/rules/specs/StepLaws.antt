@@ -1,4 +1,4 @@
--- What is known of a step that is in range. Assumes nothing.
+-- The bounds of what a step in range asks for. What is known of such a step stands in proofs/StepLaws.antt. Assumes nothing.
 use Rattle.std.specs.Prelude.{◌<◌, ◌≡◌}
 use Rattle.std.proofs.Math.Bool.{true}
 use Rattle.tables.specs.Size.{Size, items, sums}

@@ -1,7 +1,5 @@
--- Collecting finds exactly what it says: all lines, a bad one, or more than there is room for. Assumes nothing.
-use Prim.Native.Nat.{ℕ, ◌+◌, ◌<◌, ◌≤◌}
-use mathlib.Core.List.{List, ◌++◌}
-use Rattle.std.specs.Prelude.{◌≡◌}
+-- What collecting says of a text: all lines, a bad one, or more than there is room for. That it finds exactly this stands in proofs/CollectLaws.antt. Assumes nothing.
+use Rattle.std.specs.Prelude.{◌≡◌, ℕ, ◌+◌, ◌<◌, ◌≤◌, List, ◌++◌}
 use Rattle.std.proofs.Math.ListN.{length}
 use Rattle.tables.specs.Size.{Size}
 use Rattle.rules.specs.Step.{Step}

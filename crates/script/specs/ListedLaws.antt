@@ -1,4 +1,4 @@
--- The first line; and the steps collected so far, and those still to come. Assumes nothing.
+-- Steps put in front of what was collected. What holds of the first line and of the steps so far stands in proofs/ListedLaws.antt. Assumes nothing.
 use Rattle.std.specs.Prelude.{List, [], ◌∷◌}
 use Rattle.rules.specs.Step.{Step}
 use Rattle.script.specs.Collect.{Collected, push}

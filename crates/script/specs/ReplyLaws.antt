@@ -1,4 +1,4 @@
--- The reply that the code finds is one of those that Reply.antt allows, and there is no other. Assumes nothing.
+-- The first line, as a step of kind 0. That the reply that the code finds is the one of Reply.antt stands in proofs/ReplyLaws.antt. Assumes nothing.
 use Rattle.std.specs.Prelude.{ℕ, List}
 use Rattle.tables.specs.Size.{Size}
 use Rattle.rules.specs.Step.{Step}

@@ -1,5 +1,5 @@
--- 01, "The desk program": the ten rows as text. The rows are written out in rules/Rows.antt alone; their text is spelled here from them, and
--- one row of it byte by byte. Assumes nothing.
+-- 01, "The desk program": the ten rows as text. The rows are written out in rules/Rows.antt alone; their text is spelled here from them. That it
+-- is answered as it should be, and one row byte by byte, stands in proofs/TenLines.antt. Assumes nothing.
 use Rattle.std.specs.Prelude.{ℕ, cond, List, [], ◌∷◌, ◌++◌, eqb}
 use Rattle.rules.specs.Step.{Step}
 use Rattle.rules.specs.Rows.{small, ten_steps}

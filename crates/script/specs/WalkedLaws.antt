@@ -1,4 +1,4 @@
--- The walk over the lines: what one line more comes to, and what holds between two of them. Assumes nothing.
+-- How many lines may still be listed: what a turn of the loop makes less. What holds between two turns stands in proofs/WalkedLaws.antt. Assumes nothing.
 use Rattle.std.specs.Prelude.{ℕ, suc, ◌-◌}
 use Rattle.script.specs.Reply.{most_steps}
 use Rattle.script.specs.declared.collecting.Listed.{Listed}

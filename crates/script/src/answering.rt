@@ -22,7 +22,7 @@ pub fn is_admissible(z: Table) -> bool
 // Makes a fresh table of these sizes and runs a list of steps on it.
 fn run_fresh(z: Table, table: &mut [u32], steps: &[u32], answers: &mut [u32])
     requires within { Within (shape z) × (length table.old ≡ size (shape z)) }
-    requires steps_len { (length steps.now ≡ length answers.old) × (length steps.now % 5 ≡ 0) }
+    requires lengths { (length steps.now ≡ length answers.old) × (length steps.now % 5 ≡ 0) }
     ensures { answers.new ≡ answer_words (answers_of (shape z) steps.now) }
 {
     tables::making::make(z.n as u32, z.l as u32, z.p as u32, table);
@@ -31,8 +31,8 @@ fn run_fresh(z: Table, table: &mut [u32], steps: &[u32], answers: &mut [u32])
 
 // The answers of the first so many steps of a list, put at the front of a buffer. The table is made at the front of another.
 pub fn answer(z: Table, count: usize, table: &mut [u32], steps: &[u32], answers: &mut [u32])
-    requires z_value { (admissible (shape z) ≡ true) × (count ≤ 512) }
-    requires in_bounds { (9012 ≤ length table.old) × (2560 ≤ length steps.now) × (2560 ≤ length answers.old) }
+    requires limits { (admissible (shape z) ≡ true) × (count ≤ 512) }
+    requires room { (9012 ≤ length table.old) × (2560 ≤ length steps.now) × (2560 ≤ length answers.old) }
     ensures { take (count * 5) answers.new ≡ answer_words (answers_of (shape z) (take (count * 5) steps.now)) }
 {
     let words = count * 5;

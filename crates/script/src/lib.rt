@@ -62,7 +62,7 @@ fn reply_answers(
     answers: &mut [u32],
     out: &mut [u8],
 ) -> usize
-    requires z_value { (admissible (shape z) ≡ true) × (count ≤ 512) }
+    requires limits { (admissible (shape z) ≡ true) × (count ≤ 512) }
     requires room { Room table.old steps.now answers.old out.old }
     ensures { Puts out.old 0 (answer_lines (answers_of (shape z) (take (count * 5) steps.now))) result out.new }
 {

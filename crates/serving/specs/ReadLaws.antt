@@ -1,6 +1,5 @@
 -- What a read makes of a table's words, one after another: those that the rules say. Assumes nothing.
-use Rattle.std.specs.Prelude.{ℕ, suc, ◌+◌, ◌-◌, ◌<◌, ◌≡◌, length, get_or, take, drop}
-use mathlib.Core.List.{List, ◌++◌}
+use Rattle.std.specs.Prelude.{ℕ, suc, ◌+◌, ◌-◌, ◌<◌, ◌≡◌, length, get_or, take, drop, List, ◌++◌}
 use Rattle.std.proofs.Math.Option.{Option, some}
 use Rattle.std.proofs.Math.Path.{refl, ap, ap₂}
 use Rattle.std.proofs.Common.{◌∙◌, add-one, take_at}

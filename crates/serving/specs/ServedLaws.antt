@@ -1,9 +1,8 @@
 -- A read and a write by what is found on the way: the slot, the reach, and the outcome of the search. Assumes nothing.
 use Rattle.std.specs.Prelude.{ℕ, ◌<◌, true, false, List, ◌≡◌, refl, eqb, length, get_or}
 use Rattle.std.proofs.Math.Option.{Option, none, some}
-use Rattle.std.proofs.Common.{sym, ◌∙◌, arith}
+use Rattle.std.proofs.Common.{sym, ◌∙◌, arith, eq-eqb, ne_eqb, ltb-true}
 use Rattle.std.proofs.Math.Path.{ap, ap₂, subst}
-use borrow.Author.Tests.{eq-eqb, ne_eqb, ltb-true}
 use Rattle.words.specs.TestLaws.{cond-true, cond-false, and_right}
 use Rattle.tables.specs.Size.{Size}
 use Rattle.tables.specs.State.{closed}

@@ -1,8 +1,7 @@
 -- Soundness in stages: the header and the length, and then the other rules. Assumes nothing.
 use Rattle.std.specs.Prelude.{ℕ, ◌<◌, Bool, true, false, List, ◌≡◌, eqb, length, get_or}
 use Rattle.std.proofs.Math.Path.{sym, ap}
-use Rattle.std.proofs.Common.{◌∙◌, arith}
-use borrow.Author.Tests.{eqb-true, eq-eqb}
+use Rattle.std.proofs.Common.{◌∙◌, arith, eqb-true, eq-eqb}
 use Rattle.words.specs.TestLaws.{and_left, and_right, and_both, not-true-false, true-not-false}
 use Rattle.words.specs.CheckLaws.{and-goes}
 use Rattle.tables.specs.Layout.{size, size_of}

@@ -1,8 +1,7 @@
 -- A run takes its steps one after another: one step more of a list of words, and what it adds to the answers. Assumes nothing.
-use Rattle.std.specs.Prelude.{ℕ, zero, suc, ◌+◌, ◌*◌, ◌≤◌, ◌<◌, ◌%◌, false, ◌&&◌, ◌≡◌, refl, length, get_or}
-use mathlib.Core.List.{List, [], ◌∷◌, ◌++◌, append-nil, append_assoc}
+use Rattle.std.specs.Prelude.{ℕ, zero, suc, ◌+◌, ◌*◌, ◌≤◌, ◌<◌, ◌%◌, false, ◌&&◌, ◌≡◌, refl, length, get_or, List, [], ◌∷◌, ◌++◌}
 use Rattle.std.proofs.Math.Path.{sym, ap}
-use Rattle.std.proofs.Common.{◌∙◌, ap₂, add-one, arith, eq-eqb, ne_eqb, length-drop, take-append-drop, drop-drop, get_or-drop, length-take-le}
+use Rattle.std.proofs.Common.{◌∙◌, ap₂, add-one, arith, eq-eqb, ne_eqb, length-drop, take-append-drop, drop-drop, get_or-drop, length-take-le, append-nil, append_assoc}
 use Rattle.std.proofs.Math.Dec.{eqb}
 use Rattle.std.proofs.Math.ListN.{take, drop, drop_of_length-le}
 use Rattle.std.proofs.Math.Seq.{take_all}

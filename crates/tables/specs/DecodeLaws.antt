@@ -1,7 +1,6 @@
--- A state and its words are each other's: a state's words mean that state, and a table's words are those of the state that they
--- mean. Assumes nothing.
-use Rattle.std.specs.Prelude.{ℕ, ◌≤◌, ◌≡◌, length}
-use mathlib.Core.List.{[]}
+-- A state that its words show: as many entries as there are places, and nothing past the last server and slot. That states and words are each
+-- other's stands in proofs/DecodeLaws.antt. Assumes nothing.
+use Rattle.std.specs.Prelude.{ℕ, ◌≤◌, ◌≡◌, length, []}
 use Rattle.tables.specs.Size.{Size}
 use Rattle.tables.specs.SlotLaws.{Confined}
 use Rattle.tables.specs.State.{State, closed}

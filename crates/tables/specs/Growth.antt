@@ -1,7 +1,5 @@
--- A sound state in which one server's log grew, or one slot was set, is sound. Writes and exchanges are both such a growth.
--- Assumes nothing.
-use Prim.Native.Nat.{ℕ, suc, ◌<◌, ◌≤◌}
-use Rattle.std.specs.Prelude.{List, ◌⊎◌, ◌≡◌}
+-- How one server's log may grow in a sound state. That the state is sound then stands in proofs/Growth.antt. Assumes nothing.
+use Rattle.std.specs.Prelude.{List, ◌⊎◌, ◌≡◌, ℕ, suc, ◌<◌, ◌≤◌}
 use Rattle.std.proofs.Math.ListN.{length}
 use Rattle.words.specs.Lists.{In}
 use Rattle.logs.specs.Write.{Write}

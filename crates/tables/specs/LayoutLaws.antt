@@ -1,6 +1,6 @@
--- What holds of a state's words: how many there are, and what stands at each offset. Assumes nothing.
-use Rattle.std.specs.Prelude.{ℕ, ◌<◌, ◌≤◌}
-use mathlib.Core.List.{List, ◌++◌}
+-- The runs of a state's words, what stands before them, and that no log is too long. How long they are, and what stands at each offset, stands
+-- in proofs/LayoutLaws.antt. Assumes nothing.
+use Rattle.std.specs.Prelude.{ℕ, ◌<◌, ◌≤◌, List, ◌++◌}
 use Rattle.std.proofs.Math.ListN.{length}
 use Rattle.words.specs.Lists.{blocks}
 use Rattle.logs.specs.Places.{places}

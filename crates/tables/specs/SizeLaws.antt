@@ -1,4 +1,4 @@
--- The limits as plain bounds. Assumes nothing.
+-- The limits as plain bounds. That the test says the same stands in proofs/SizeLaws.antt. Assumes nothing.
 use Rattle.std.specs.Prelude.{◌≤◌}
 use Rattle.tables.specs.Size.{Size}
 

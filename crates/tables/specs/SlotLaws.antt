@@ -1,4 +1,4 @@
--- What holds of a slot's words: how many there are, each by its place, and that slots and words are each other's. Assumes nothing.
+-- A session whose vectors end with the last server. What holds of a slot's words stands in proofs/SlotLaws.antt. Assumes nothing.
 use Rattle.std.specs.Prelude.{ℕ, ◌≤◌, ◌≡◌}
 use Rattle.tables.specs.State.{Slot, closed, opened}
 

@@ -1,9 +1,8 @@
 -- What holds of version vectors: of dominance, of the join, and of the greatest component. Assumes nothing.
-use Prim.Native.Nat.{ℕ, zero, suc, max, ◌+◌, ◌<◌, ◌≤◌}
-use Rattle.std.specs.Prelude.{true, false, List, ◌⊎◌, ◌≡◌, refl, leb, length, set}
-use Rattle.std.proofs.Common.{inl, inr, ⊎_elim, sym, ◌∙◌, ap, add-one, leb-true, le-leb}
+use Rattle.std.specs.Prelude.{true, false, List, ◌⊎◌, ◌≡◌, refl, leb, length, set, ℕ, zero, suc, max, ◌+◌, ◌<◌, ◌≤◌}
+use Rattle.std.proofs.Common.{inl, inr, ⊎_elim, sym, ◌∙◌, ap, add-one, leb-true, le-leb, arith}
 use Rattle.std.proofs.Math.Path.{ap₂}
-use native.Mathlib.Omega.{arith, max_cases}
+use native.Mathlib.Omega.{max_cases}
 use Rattle.words.specs.Lists.{row}
 use Rattle.words.specs.RowLaws.{below_suc, length-row, get_or-row, row-cong, filled, get_or-filled, filled_more}
 use Rattle.words.specs.TestLaws.{not-true-false, all-at, all-make, all-cong}

@@ -1,12 +1,9 @@
 -- What holds of blocks of one width, one behind the other: a list cut into blocks, a block and its elements by their place, and stores
 -- in a block. Assumes nothing.
-use Prim.Native.Nat.{ℕ, zero, suc, ◌+◌, ◌-◌, ◌*◌, ◌<◌, ◌≤◌}
-use mathlib.Core.List.{List, ◌++◌, append-nil, append_assoc}
-use Rattle.std.specs.Prelude.{◌≡◌, refl, length, get_or, set}
-use Rattle.std.proofs.Common.{sym, ◌∙◌, ap₂, zero-mul, mul-le-mul_right}
+use Rattle.std.specs.Prelude.{◌≡◌, refl, length, get_or, set, ℕ, zero, suc, ◌+◌, ◌-◌, ◌*◌, ◌<◌, ◌≤◌, List, ◌++◌}
+use Rattle.std.proofs.Common.{sym, ◌∙◌, ap₂, zero-mul, mul-le-mul_right, append-nil, append_assoc, arith}
 use Rattle.std.proofs.Math.Path.{ap}
 use Rattle.std.proofs.Math.Nat.{add-zero, add-suc, suc-mul}
-use native.Mathlib.Omega.{arith}
 use Rattle.std.proofs.Math.ListN.{replicate, length-append, replicate-append-replicate}
 use Rattle.std.proofs.lemmas.List.{length-replicate, get_or-replicate}
 use Rattle.words.specs.Lists.{row, blocks, part, splice, upd}

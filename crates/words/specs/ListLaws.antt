@@ -1,12 +1,11 @@
 -- What holds of membership, of what passes a test, and of functions changed at one number. Assumes nothing.
-use Rattle.std.specs.Prelude.{ℕ, zero, suc, ◌<◌, ◌≤◌, min, Bool, true, ◌⊎◌, eqb, ltb, take, length}
+use Rattle.std.specs.Prelude.{ℕ, zero, suc, ◌<◌, ◌≤◌, min, Bool, true, ◌⊎◌, eqb, ltb, take, length, List, [], ◌∷◌, ◌++◌}
 use Rattle.std.proofs.Math.Bool.{false}
-use mathlib.Core.List.{List, [], ◌∷◌, ◌++◌}
-use Rattle.std.proofs.Common.{inl, inr, sym, ◌∙◌, eqb-true, eq-eqb, ne_eqb, lt-ltb, le-ltb, ltb-true, ltb-false, take_all}
+use Rattle.std.proofs.Common.{inl, inr, sym, ◌∙◌, eqb-true, eq-eqb, ne_eqb, lt-ltb, le-ltb, ltb-true, ltb-false, take_all, arith}
 use Rattle.std.proofs.Math.Logic.{⊎_elim}
 use Rattle.std.proofs.Math.Option.{Option, none, some}
 use Rattle.std.proofs.Math.Path.{◌≡◌, refl, ap, subst, fun_ext}
-use native.Mathlib.Omega.{arith, max_cases}
+use native.Mathlib.Omega.{max_cases}
 use Rattle.std.proofs.lemmas.Bool.{eqb-false}
 use Rattle.words.specs.Lists.{In, here, there, keep, first, upd, below}
 use Rattle.words.specs.TestLaws.{either, cond-elim, cond-true, cond-false}

@@ -1,7 +1,6 @@
 -- What holds of parts: their length and elements, neighbouring parts, parts of two lists put together, and stores in these. Assumes
 -- nothing.
-use Rattle.std.specs.Prelude.{ℕ, ◌+◌, ◌<◌, ◌≤◌, ◌≡◌, refl, length, set}
-use mathlib.Core.List.{List, [], ◌∷◌, ◌++◌}
+use Rattle.std.specs.Prelude.{ℕ, ◌+◌, ◌<◌, ◌≤◌, ◌≡◌, refl, length, set, List, [], ◌∷◌, ◌++◌}
 use Rattle.std.proofs.Common.{sym, ◌∙◌, add-zero, zero-add, suc-add, arith, drop-drop, get_or-append-add}
 use Rattle.std.proofs.Math.Path.{ap, ap₂}
 use Rattle.std.proofs.Math.ListN.{get_or, take, drop, length-drop}
@@ -54,7 +53,7 @@ module _ {A : Type 0} where
   unfolding part
   part-middle xs ys zs a k e f = ap (λ (r : List A). take k r) (drop_at xs (ys ++ zs) a e) ∙ take_at ys zs k f
 
-  -- An element of the second list. Of the first it is `List·get_or-append`.
+  -- An element of the second list. Of the first it is `get_or-append`.
   pub get_or-right : (xs ys : List A) (n j : ℕ) (d : A) → length xs ≡ n → get_or (xs ++ ys) (n + j) d ≡ get_or ys j d
   get_or-right xs ys n j d e = ap (λ (m : ℕ). get_or (xs ++ ys) (m + j) d) (sym e) ∙ get_or-append-add xs ys j d
 

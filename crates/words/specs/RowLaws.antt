@@ -1,8 +1,6 @@
 -- What holds of a function's first values as a list, and of blocks of one width, one behind the other. Assumes nothing.
-use Prim.Native.Nat.{ℕ, zero, suc, ◌+◌, ◌*◌, ◌<◌}
-use mathlib.Core.List.{List, [], ◌∷◌, ◌++◌, append-nil}
-use Rattle.std.specs.Prelude.{◌⊎◌, ◌≡◌, eqb, length, get_or, set, drop}
-use Rattle.std.proofs.Common.{inl, inr, ◌∙◌, add-one, arith, suc-mul, zero-mul, eqb-true, drop_of_length-le, ext_get_or}
+use Rattle.std.specs.Prelude.{◌⊎◌, ◌≡◌, eqb, length, get_or, set, drop, ℕ, zero, suc, ◌+◌, ◌*◌, ◌<◌, List, [], ◌∷◌, ◌++◌}
+use Rattle.std.proofs.Common.{inl, inr, ◌∙◌, add-one, arith, suc-mul, zero-mul, eqb-true, drop_of_length-le, ext_get_or, append-nil}
 use Rattle.std.proofs.Math.Logic.{⊎_elim}
 use Rattle.std.proofs.Math.Path.{refl, sym, ap, ap₂}
 use Rattle.std.proofs.lemmas.Bool.{eqb-false}

@@ -1,8 +1,7 @@
 -- What holds of stores in a function's values as a list and in a part of a block, of a function changed at one number, and of a part
 -- that is a function's values. Assumes nothing.
-use Rattle.std.specs.Prelude.{ℕ, ◌+◌, ◌*◌, ◌<◌, ◌≤◌, ◌≡◌, length, get_or, set}
-use mathlib.Core.List.{List, ◌++◌, append-nil, append_assoc}
-use Rattle.std.proofs.Common.{sym, ◌∙◌, arith, length-set, drop_of_length-le, ext_get_or, get_or-set_same, get_or-set_other}
+use Rattle.std.specs.Prelude.{ℕ, ◌+◌, ◌*◌, ◌<◌, ◌≤◌, ◌≡◌, length, get_or, set, List, ◌++◌}
+use Rattle.std.proofs.Common.{sym, ◌∙◌, arith, length-set, drop_of_length-le, ext_get_or, get_or-set_same, get_or-set_other, append-nil, append_assoc}
 use Rattle.std.proofs.Math.Path.{ap, ap₂, fun_ext}
 use Rattle.std.proofs.Math.ListN.{take, drop, length-drop}
 use Rattle.std.proofs.Math.Seq.{take-append-add, drop-append-add, drop-append-le}

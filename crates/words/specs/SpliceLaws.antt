@@ -1,8 +1,7 @@
 -- What holds of a splice in front of the replaced elements, at them and behind them, of the words from a place on, and of stores in a row.
 -- Assumes nothing.
-use Rattle.std.specs.Prelude.{ℕ, zero, suc, ◌+◌, ◌-◌, ◌≤◌, true, ◌≡◌, eqb, length, set, take, drop}
-use mathlib.Core.List.{List, [], ◌∷◌, ◌++◌, append_assoc}
-use Rattle.std.proofs.Common.{sym, ◌∙◌, subst, arith, drop-drop}
+use Rattle.std.specs.Prelude.{ℕ, zero, suc, ◌+◌, ◌-◌, ◌≤◌, true, ◌≡◌, eqb, length, set, take, drop, List, [], ◌∷◌, ◌++◌}
+use Rattle.std.proofs.Common.{sym, ◌∙◌, subst, arith, drop-drop, append_assoc}
 use Rattle.std.proofs.Math.Path.{ap}
 use Rattle.std.proofs.Math.Numerals.{unary_clauses}
 use Rattle.std.proofs.Math.ListN.{length-append, length-drop}

@@ -1,8 +1,7 @@
--- A table that is not sound and a wrong answer buffer together: the order in which the two are told decides the number that is returned, and
--- no word of table or buffer. Assumes nothing.
-use Rattle.std.specs.Prelude.{ℕ, eqb, length}
+-- The other order, in which 1 would be told before 8. That it decides the number that is returned, and no word of table or buffer, stands in
+-- proofs/OrderLaws.antt. Assumes nothing.
+use Rattle.std.specs.Prelude.{ℕ, eqb, length, List, [], ◌∷◌}
 use Rattle.std.proofs.Math.Bool.{cond}
-use mathlib.Core.List.{List, [], ◌∷◌}
 use Rattle.tables.specs.Sound.{sound}
 use Rattle.rules.specs.Step.{Step, refused, answer_words}
 use Rattle.rules.specs.Calls.{Ran}

@@ -1,5 +1,6 @@
 // The calls as C has them: making a table, one step and a run on lent words. include/yittomere.h declares them and says what a C
-// programmer must know. None asks anything of the numbers and words that it is given.
+// programmer must know. None asks anything of the numbers and words that it is given. Crate `yittomere_c` exports them to C: a crate that others
+// see exports nothing.
 #![tactic(auto)]
 
 ghost use Rattle.tables.specs.Make.{MakePromise};

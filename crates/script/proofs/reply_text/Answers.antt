@@ -12,7 +12,7 @@ returns-then-text-gt-MOST_BYTES c = puts-as (sym (long-one _ c.if-text-gt-MOST_B
 pub reply_answers-requires : goal.reply_answers-requires
 reply_answers-requires c =
     let fits = listed-fits _ c.if-text-gt-MOST_BYTES.false c.collect.ensures c.in-Whole.is in
-    record { z_value = (ap admissible c.new.ensures ∙ fits.0, fits.1); room = search rules }
+    record { limits = (ap admissible c.new.ensures ∙ fits.0, fits.1); room = search rules }
 
 pub bad_line-requires : goal.bad_line-requires
 bad_line-requires c = bad_line-fits _ c.args.out.now (search rules) c.requires.for_out

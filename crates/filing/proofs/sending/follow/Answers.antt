@@ -15,13 +15,13 @@ unfolding entries follow
 loop-e-init c = (search rules, refl, sym (row-get_or _ 0 _ refl))
 
 pub bounds-vector-j : goal.bounds-vector-j
-bounds-vector-j c = omega (arith, origin-below _ _ _ _ c.requires.origin_in_bounds c.loop-e-test.true c.entry_at-w.ensures)
+bounds-vector-j c = omega (arith, origin-below _ _ _ _ c.requires.origins c.loop-e-test.true c.entry_at-w.ensures)
 
 pub offset_bounds-vector-j : goal.offset_bounds-vector-j
-offset_bounds-vector-j c = omega (arith, origin-below _ _ _ _ c.requires.origin_in_bounds c.loop-e-test.true c.entry_at-w.ensures)
+offset_bounds-vector-j c = omega (arith, origin-below _ _ _ _ c.requires.origins c.loop-e-test.true c.entry_at-w.ensures)
 
 pub loop-e-preserved : goal.loop-e-preserved
-loop-e-preserved c = (search rules, search rules, follow-next _ c.loop-e.e c.args.batch.now (vector_of c.args.vector.now) _ (omega (arith, origin-below _ _ _ _ c.requires.origin_in_bounds c.loop-e-test.true c.entry_at-w.ensures)) c.loop-e.invariant.2 c.entry_at-w.ensures)
+loop-e-preserved c = (search rules, search rules, follow-next _ c.loop-e.e c.args.batch.now (vector_of c.args.vector.now) _ (omega (arith, origin-below _ _ _ _ c.requires.origins c.loop-e-test.true c.entry_at-w.ensures)) c.loop-e.invariant.2 c.entry_at-w.ensures)
 
 pub returns : goal.returns
 returns c =

@@ -20,7 +20,7 @@ returns-then-most-k c =
     }
 
 pub send_if_lacking-k-requires : goal.send_if_lacking-k-requires
-send_if_lacking-k-requires c = (origin-below _ _ _ _ c.requires.origin_in_bounds c.loop-e-test.true c.entry_at-w.ensures, search rules)
+send_if_lacking-k-requires c = (origin-below _ _ _ _ c.requires.origins c.loop-e-test.true c.entry_at-w.ensures, search rules)
 
 pub loop-e-preserved : goal.loop-e-preserved
 loop-e-preserved c = (search rules, search rules, search rules, lacking-next _ _ _ _ c.loop-e.invariant.3 c.entry_at-w.ensures c.send_if_lacking-k.ensures.which)

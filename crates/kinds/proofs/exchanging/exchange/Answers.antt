@@ -30,8 +30,8 @@ lacking-k-requires c =
     let log = c.log.ensures in
     let count = c.count-2.ensures in
     record {
-      count_in_bounds = (writes-fit held _ c.requires.1 log count, omega (arith, within-view held, c.smaller-limit.ensures));
-      origin_in_bounds = origins-read held _ _ c.requires.1 c.requires.2 log count c.vector.ensures;
+      places = (writes-fit held _ c.requires.1 log count, omega (arith, within-view held, c.smaller-limit.ensures));
+      origins = origins-read held _ _ c.requires.1 c.requires.2 log count c.vector.ensures;
     }
 
 pub receive-requires : goal.receive-requires

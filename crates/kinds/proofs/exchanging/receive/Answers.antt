@@ -17,7 +17,7 @@ pub follow-requires : goal.follow-requires
 follow-requires c =
     let at = c.vector_at-a.ensures in
     let many = length-lent c.insert.new.t c.args.z.n at.is refl (omega (arith, length-view c.requires.held.0, c.insert.auto.t, at.inside)) in
-    record { k_in_bounds = search rules; origin_in_bounds = λ w m. omega (arith, many, c.requires.ascending.1 w m) }
+    record { places = search rules; origins = λ w m. omega (arith, many, c.requires.ascending.1 w m) }
 
 pub returns : goal.returns
 returns c =

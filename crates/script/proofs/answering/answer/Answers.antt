@@ -9,13 +9,13 @@ use native.Mathlib.Omega.{arith}
 use Rattle.script.proofs.answering.answer.Goals as goal
 
 pub words-size-requires : goal.words-size-requires
-words-size-requires c = admissible-within (shape c.args.z) c.requires.z_value.0
+words-size-requires c = admissible-within (shape c.args.z) c.requires.limits.0
 
 pub slice_bounds-run_fresh-end : goal.slice_bounds-run_fresh-end
-slice_bounds-run_fresh-end c = table-room (shape c.args.z) c.requires.z_value.0 c.words-size.ensures.0 c.args.table.now c.requires.in_bounds.0
+slice_bounds-run_fresh-end c = table-room (shape c.args.z) c.requires.limits.0 c.words-size.ensures.0 c.args.table.now c.requires.room.0
 
 pub slice_bounds-run_fresh-end-2 : goal.slice_bounds-run_fresh-end-2
-slice_bounds-run_fresh-end-2 c = sym (length-take-le _ _ (table-room (shape c.args.z) c.requires.z_value.0 c.words-size.ensures.0 c.args.table.now c.requires.in_bounds.0))
+slice_bounds-run_fresh-end-2 c = sym (length-take-le _ _ (table-room (shape c.args.z) c.requires.limits.0 c.words-size.ensures.0 c.args.table.now c.requires.room.0))
 
 pub slice_bounds-run_fresh-end-3 : goal.slice_bounds-run_fresh-end-3
 slice_bounds-run_fresh-end-3 c = sym (length-take-le _ _ (search rules))
@@ -29,10 +29,10 @@ run_fresh-requires c =
     let answers-long = length-take-le (c.args.count * 5) c.args.answers.now (search rules) in
     record {
       within = (
-        admissible-within (shape c.args.z) c.requires.z_value.0,
-        table-front (shape c.args.z) c.requires.z_value.0 c.words-size.ensures.0 c.args.table.now c.requires.in_bounds.0,
+        admissible-within (shape c.args.z) c.requires.limits.0,
+        table-front (shape c.args.z) c.requires.limits.0 c.words-size.ensures.0 c.args.table.now c.requires.room.0,
       );
-      steps_len = (steps-long ∙ sym answers-long, omega (arith, steps-long));
+      lengths = (steps-long ∙ sym answers-long, omega (arith, steps-long));
     }
 
 pub returns : goal.returns

@@ -5,9 +5,12 @@ use Rattle.words.specs.Lists.{row, part, splice}
 use Rattle.words.specs.PartLaws.{row-part}
 use Rattle.words.specs.SpliceLaws.{sets-splice}
 use Rattle.lines.specs.Decimal.{decimal}
-use Rattle.lines.proofs.DecimalLaws.{decimal-one, decimal-more}
+use Rattle.lines.proofs.DecimalLaws.{decimal-one, decimal-more, length-decimal}
 use Rattle.lines.specs.Line.{numbers}
 use Rattle.printing.specs.Printed.{Puts, line_at, word_lines}
+
+-- A number has at most ten digits: what the room for a line goes by.
+pub ruleset short = (length-decimal)
 
 -- ---- pieces
 

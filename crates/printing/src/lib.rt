@@ -43,6 +43,7 @@ fn put_field(out: &mut [u8], at: usize, x: u32) -> usize
 }
 
 // The line of an answer, the five words from a place on: at most 55 bytes.
+#[tactic(auto, using(crate::proofs::PrintedLaws::short))]
 fn put_answer(out: &mut [u8], at: usize, words: &[u32], from: usize) -> usize
     requires { (at + 55 ≤ length out.old) × (from + 5 ≤ length words.now) }
     ensures puts { Puts out.old at (line_at words.now from) result out.new }

@@ -1,15 +1,8 @@
 -- Each of the rules c, d and e: its share of one server or of two, on a table's words. Assumes nothing.
-use Rattle.std.specs.Prelude.{ℕ, Bool, true, List, ◌≡◌, eqb}
+use Rattle.std.specs.Prelude.{ℕ, Bool, List, eqb}
 use Rattle.logs.specs.LogTests.{ordered, greatest_of, agrees}
 use Rattle.tables.specs.Size.{Size, items}
 use Rattle.tables.specs.Layout.{decode}
-use Rattle.tables.specs.Shape.{Laid}
-use Rattle.tables.specs.Sound.{rule_b}
-
--- A table of the right length whose counts fit: its logs can be read.
-pub record Counted (z : Size) (t : List ℕ) : Type 0 where
-  pub laid : Laid z t
-  pub counts : rule_b z t ≡ true
 
 -- c: one log
 unfoldable pub in_order : Size → List ℕ → ℕ → Bool

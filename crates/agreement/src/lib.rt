@@ -1,128 +1,95 @@
 // Rules c, d and e, on logs whose counts fit: each log by itself, with its server's vector, and with the logs of its writes' origins.
 #![tactic(auto)]
 
-ghost use Rattle.std.specs.Prelude.{◌≡◌, ◌<◌};
+ghost use Rattle.std.specs.Prelude.{true, ◌≡◌, ◌<◌, map};
 ghost use Rattle.words.specs.Tests.{all};
+ghost use Rattle.logs.specs.Places.{write_in};
 ghost use Rattle.tables.specs.Layout.{decode};
-ghost use Rattle.tables.specs.Shape.{shape, Laid};
-ghost use Rattle.tables.specs.Sound.{rule_c, rule_d, rule_e};
-ghost use Rattle.agreement.specs.Shares.{Counted, in_order, follows, agrees_with};
+ghost use Rattle.tables.specs.Shape.{shape};
+ghost use Rattle.tables.specs.Sound.{rule_b, rule_c, rule_d, rule_e};
+ghost use Rattle.agreement.specs.Shares.{in_order, follows, agrees_with};
 
 use tables::Table;
+use views::View;
 
-// Rule c, of every log.
-pub fn all_in_order(t: &[u32], z: Table) -> bool
-    requires { Counted (shape z) t.now }
-    ensures { result ≡ rule_c (shape z) (decode (shape z) t.now) }
-{
-    let mut i = 0;
-    while i < z.n {
-        if !in_order(t, z, i) {
-            return false;
-        }
-        i += 1;
+// A table whose counts fit: its logs can be read.
+#[derive(Clone, Copy)]
+pub struct Counted<'a> {
+    pub view: View<'a>,
+    ghost counts: { rule_b (shape view.sizes) view.words.now ≡ true },
+}
+
+impl<'a> Counted<'a> {
+    // Rule c, of every log.
+    pub fn all_in_order(&self) -> bool
+        ensures { result ≡ rule_c (shape self.now.view.sizes) (decode (shape self.now.view.sizes) self.now.view.words.now) }
+    {
+        (0..self.view.sizes.n).all(|i| self.is_in_order(i))
     }
-    true
-}
 
-// Rule c, of server i's log.
-fn in_order(t: &[u32], z: Table, i: usize) -> bool
-    requires { Counted (shape z) t.now × (i < z.n) }
-    ensures { result ≡ in_order (shape z) t.now i }
-{
-    let log = views::log(t, z, i);
-    let count = views::count(t, z, i);
-    checks::ordered(log, count, z.n as u32, Table::ITEMS)
-}
-
-// Rule d, of every server.
-pub fn all_follow(t: &[u32], z: Table) -> bool
-    requires { Counted (shape z) t.now }
-    ensures { result ≡ rule_d (shape z) (decode (shape z) t.now) }
-{
-    let mut i = 0;
-    while i < z.n {
-        if !vector_follows(t, z, i) {
-            return false;
-        }
-        i += 1;
+    // Rule c, of server i's log.
+    #[tactic(auto, unfolding(crate::specs::Shares::in_order))]
+    fn is_in_order(&self, i: usize) -> bool
+        requires { i < self.now.view.sizes.n }
+        ensures { result ≡ in_order (shape self.now.view.sizes) self.now.view.words.now i }
+    {
+        checks::ordered(self.log(i), self.view.sizes.n as u32, Table::ITEMS)
     }
-    true
-}
 
-// Rule d, of server i's vector.
-fn vector_follows(t: &[u32], z: Table, i: usize) -> bool
-    requires { Counted (shape z) t.now × (i < z.n) }
-    ensures { result ≡ all z.n (follows (shape z) t.now i) }
-{
-    let mut j = 0;
-    while j < z.n {
-        if !component_follows(t, z, i, j) {
-            return false;
-        }
-        j += 1;
+    // Rule d, of every server's vector.
+    pub fn all_follow(&self) -> bool
+        ensures { result ≡ rule_d (shape self.now.view.sizes) (decode (shape self.now.view.sizes) self.now.view.words.now) }
+    {
+        (0..self.view.sizes.n).all(|i| self.vector_follows(i))
     }
-    true
-}
 
-// Rule d, of component j of server i's vector.
-fn component_follows(t: &[u32], z: Table, i: usize, j: usize) -> bool
-    requires { Counted (shape z) t.now × (i < z.n) × (j < z.n) }
-    ensures { result ≡ follows (shape z) t.now i j }
-{
-    let log = views::log(t, z, i);
-    let count = views::count(t, z, i);
-    component(t, z, i, j) == checks::greatest_of(log, count, j as u32)
-}
-
-// Rule e, of every server.
-pub fn all_agree(t: &[u32], z: Table) -> bool
-    requires { Counted (shape z) t.now }
-    ensures { result ≡ rule_e (shape z) (decode (shape z) t.now) }
-{
-    let mut i = 0;
-    while i < z.n {
-        if !log_agrees(t, z, i) {
-            return false;
-        }
-        i += 1;
+    // Rule d, of server i's vector. Of a chain in another chain's closure the proof would learn nothing, here and in `log_agrees`.
+    fn vector_follows(&self, i: usize) -> bool
+        requires { i < self.now.view.sizes.n }
+        ensures { result ≡ all self.now.view.sizes.n (follows (shape self.now.view.sizes) self.now.view.words.now i) }
+    {
+        (0..self.view.sizes.n).all(|j| self.follows(i, j))
     }
-    true
-}
 
-// Rule e, of server i's log.
-fn log_agrees(t: &[u32], z: Table, i: usize) -> bool
-    requires { Counted (shape z) t.now × (i < z.n) }
-    ensures { result ≡ all z.n (agrees_with (shape z) t.now i) }
-{
-    let mut j = 0;
-    while j < z.n {
-        if !log_agrees_with(t, z, i, j) {
-            return false;
-        }
-        j += 1;
+    // Rule d, of component j of server i's vector.
+    #[tactic(auto, unfolding(crate::specs::Shares::follows))]
+    fn follows(&self, i: usize, j: usize) -> bool
+        requires { (i < self.now.view.sizes.n) × (j < self.now.view.sizes.n) }
+        ensures { result ≡ follows (shape self.now.view.sizes) self.now.view.words.now i j }
+    {
+        self.view.component(i, j) == checks::greatest_of(self.log(i), j as u32)
     }
-    true
-}
 
-// Rule e, of server i's log and the writes of origin j.
-fn log_agrees_with(t: &[u32], z: Table, i: usize, j: usize) -> bool
-    requires { Counted (shape z) t.now × (i < z.n) × (j < z.n) }
-    ensures { result ≡ agrees_with (shape z) t.now i j }
-{
-    let known = component(t, z, i, j);
-    let log = views::log(t, z, i);
-    let count = views::count(t, z, i);
-    let home = views::log(t, z, j);
-    let held = views::count(t, z, j);
-    checks::agrees(j as u32, known, log, count, home, held)
-}
+    // Rule e, of every server's log.
+    pub fn all_agree(&self) -> bool
+        ensures { result ≡ rule_e (shape self.now.view.sizes) (decode (shape self.now.view.sizes) self.now.view.words.now) }
+    {
+        (0..self.view.sizes.n).all(|i| self.log_agrees(i))
+    }
 
-// Component j of server i's vector.
-pub fn component(t: &[u32], z: Table, i: usize, j: usize) -> u32
-    requires { Laid (shape z) t.now × (i < z.n) × (j < z.n) }
-    ensures { result ≡ (decode (shape z) t.now).vector i j }
-{
-    let vector = views::vector(t, z, i);
-    vector[j]
+    // Rule e, of server i's log.
+    fn log_agrees(&self, i: usize) -> bool
+        requires { i < self.now.view.sizes.n }
+        ensures { result ≡ all self.now.view.sizes.n (agrees_with (shape self.now.view.sizes) self.now.view.words.now i) }
+    {
+        (0..self.view.sizes.n).all(|j| self.agrees_with(i, j))
+    }
+
+    // Rule e, of server i's log and the writes of origin j.
+    #[tactic(auto, unfolding(crate::specs::Shares::agrees_with))]
+    fn agrees_with(&self, i: usize, j: usize) -> bool
+        requires { (i < self.now.view.sizes.n) × (j < self.now.view.sizes.n) }
+        ensures { result ≡ agrees_with (shape self.now.view.sizes) self.now.view.words.now i j }
+    {
+        let known = self.view.component(i, j);
+        checks::agrees(j as u32, known, self.log(i), self.log(j))
+    }
+
+    // Server i's log.
+    fn log(&self, i: usize) -> &'a [[u32; 4]]
+        requires { i < self.now.view.sizes.n }
+        ensures { map write_in result.now ≡ (decode (shape self.now.view.sizes) self.now.view.words.now).log i }
+    {
+        self.view.log(i)
+    }
 }

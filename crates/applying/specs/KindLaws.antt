@@ -6,15 +6,18 @@ use Rattle.std.proofs.Math.Path.{ap}
 use Rattle.words.specs.TestLaws.{cond-true, cond-false, and_left, and_right}
 use Rattle.tables.specs.Size.{Size, sums}
 use Rattle.tables.specs.State.{State}
-use Rattle.tables.specs.Layout.{encode, decode}
+use Rattle.tables.specs.declared.Table.{Table}
+use Rattle.tables.specs.Shape.{shape}
+use Rattle.tables.specs.Layout.{decode}
+use Rattle.views.specs.declared.Store.{Store}
 use Rattle.tables.specs.Meaning.{Means}
 use Rattle.tables.proofs.MeaningLaws.{means-sound, means-size, sound-means}
 use Rattle.rules.specs.Step.{Step, Op, bad, opens, closes, reads, writes, exchanges, open_in_range, close_in_range, read_in_range, write_in_range, exchange_in_range, if_in_range, of_kind, asked, Answer, refused}
 use Rattle.rules.specs.Rules.{rule, obeyed}
 use Rattle.rules.proofs.CallLaws.{step-means, means-next}
 use Rattle.rules.specs.Calls.{written}
-use Rattle.kinds.specs.Obeys.{Held, Comes}
-use Rattle.kinds.specs.ComesLaws.{comes-refused}
+use Rattle.kinds.specs.Obeys.{Held, size_in, state_in, Sound, Comes}
+use Rattle.kinds.specs.CameLaws.{came-refused, comes-by}
 use Rattle.applying.specs.Asked.{Applied}
 
 -- ---- by the kind word
@@ -73,25 +76,14 @@ module _ (z : Size) (x : Step) where
   unfolding exchange_in_range
   exchange-range g = (ltb-true _ _ (search and_left), ltb-true _ _ (search (and_left, and_right)))
 
--- In range: as asked.
-pub in-range : {z : Size} {t : List ℕ} → Held z t → (o : Op) {guard answered : Bool} → answered ≡ guard → {r : Answer} {left : List ℕ} → answered ≡ true
-    → Comes z (obeyed z (decode z t) o) r left
-    → Comes z (obeyed z (decode z t) (if_in_range guard o)) r left
+-- In range: as asked. Out of range: nothing is.
+pub in-range : (o : Op) {guard answered : Bool} → answered ≡ guard → answered ≡ true → if_in_range guard o ≡ o
 unfolding if_in_range
-in-range {z} {t} held o {guard} so {r} {left} yea comes =
-    subst (λ p. Comes z (obeyed z (decode z t) p) r left) (sym (cond-true guard o bad (sym so ∙ yea))) comes
+in-range o {guard} so yea = cond-true guard o bad (sym so ∙ yea)
 
--- Out of range, or of no kind: 2.
-pub bad-comes : {z : Size} {t : List ℕ} → Held z t → {r : Answer} → r ≡ refused 2 → Comes z (obeyed z (decode z t) bad) r t
-unfolding obeyed
-bad-comes held answer = comes-refused held 2 refl answer
-
--- An argument out of range.
-pub out_of_range : {z : Size} {t : List ℕ} → Held z t → (o : Op) {guard answered : Bool} → answered ≡ guard → {r : Answer} → answered ≡ false → r ≡ refused 2
-    → Comes z (obeyed z (decode z t) (if_in_range guard o)) r t
+pub out_of_range : (o : Op) {guard answered : Bool} → answered ≡ guard → answered ≡ false → if_in_range guard o ≡ bad
 unfolding if_in_range
-out_of_range {z} {t} held o {guard} so {r} nay answer =
-    subst (λ p. Comes z (obeyed z (decode z t) p) r t) (sym (cond-false guard o bad (sym so ∙ nay))) (bad-comes held answer)
+out_of_range o {guard} so nay = cond-false guard o bad (sym so ∙ nay)
 
 -- ---- a step that is done
 
@@ -101,13 +93,20 @@ means-held {z} {s} {t} means =
     subst (λ y. Means y (decode y t) t) (means-size means) (sound-means t (means-sound means))
 
 -- What the code does for what is asked is the rules' step, and the table is sound again.
-pub step-applied : {z : Size} {t left : List ℕ} {o : Op} {r : Answer} → Held z t → (x : Step) → asked z x ≡ o → Comes z (obeyed z (decode z t) o) r left → Applied z t x r left
+pub step-applied : {s left : Store} {o : Op} {r : Answer} → Sound s → (x : Step) → asked (size_in s) x ≡ o → Comes s (obeyed (size_in s) (state_in s) o) r left → Applied s x r left
 unfolding rule written
-step-applied {z} {t} {left} {o} {r} held x e comes =
-    let table : left ≡ encode z (rule z (decode z t) x).state =
-    comes.table_is ∙ ap (λ p. encode z (obeyed z (decode z t) p).state) (sym e) in
+step-applied {s} {left} {o} {r} sound x e comes =
+    let z = size_in s in
+    let done : Comes s (rule z (state_in s) x) r left = comes-by (ap (obeyed z (state_in s)) e) comes in
+    let means : Means z (rule z (state_in s) x).state left.words.now =
+    subst (Means z (rule z (state_in s) x).state) (ap (λ w. w.table) (step-means sound x) ∙ sym done.came.table_is) (means-next sound x) in
     record {
-      answer_is = comes.answer_is ∙ ap (λ p. (obeyed z (decode z t) p).answer) (sym e);
-      table_is = table;
-      is_sound = means-held (subst (Means z (rule z (decode z t) x).state) (ap (λ w. w.table) (step-means held x) ∙ sym table) (means-next held x));
+      comes = done;
+      is_sound = subst (λ (y : Table). Held (shape y) left.words.now) (sym comes.kept.sizes) (means-held means);
     }
+
+-- Code 2: an argument is out of range, or there is no such kind.
+pub nothing-applied : {s : Store} {r : Answer} → Sound s → (x : Step) → asked (size_in s) x ≡ bad → r ≡ refused 2 → Applied s x r s
+unfolding obeyed
+nothing-applied {s} sound x e answer =
+    step-applied sound x e (record { kept = record { words = refl; sizes = refl }; came = came-refused sound 2 refl answer })

@@ -1,7 +1,8 @@
 // The largest table, 16 1024 16, of 66,356 words: made, and used at its last server, slot and item.
 use crate::making;
 use std::io;
-use telling::{play, show};
+use tables::refusal;
+use telling::show;
 
 const STEPS: [[u32; 5]; 9] = [
     [1, 15, 15, 0, 0],
@@ -15,24 +16,16 @@ const STEPS: [[u32; 5]; 9] = [
     [3, 15, 255, 1, 0],
 ];
 
-fn run(rt: &impl Print, t: &mut [u32]) -> io::Result<()> {
-    let mut script = [0u32; 45];
-    let mut answers = [0u32; 45];
-    play::put_steps(&mut script, &STEPS);
-    show::number(rt, steps::run(t, &script, &mut answers))?;
-    show::text(rt, b"\n")?;
-    show::answers(rt, b"largest table", &answers)
-}
-
 pub fn all(rt: &impl Print) -> io::Result<()> {
     let mut t = [9u32; 66356];
-    let code = tables::making::make(16, 1024, 16, &mut t);
+    let code = refusal::code(tables::making::make(16, 1024, 16, &mut t));
     let fresh = t;
-    show::text(rt, b"largest table, made:")?;
-    show::number(rt, code)?;
+    print!(rt; "largest table, made: {code}")?;
     making::made(rt, &fresh)?;
-    show::text(rt, b"largest table, run:")?;
-    run(rt, &mut t)?;
-    show::text(rt, b"largest table, what changed:")?;
+    let mut answers = [0u32; 45];
+    let code = refusal::code(steps::run(&mut t, STEPS.as_flattened(), &mut answers));
+    println!(rt; "largest table, run: {code}")?;
+    show::answers(rt, "largest table", &answers)?;
+    print!(rt; "largest table, what changed:")?;
     show::left(rt, &fresh, &t)
 }

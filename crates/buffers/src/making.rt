@@ -1,6 +1,7 @@
 // Making a table, in buffers that hold nines.
 use std::io;
-use telling::show;
+use tables::refusal;
+use telling::show::{self, Words};
 
 // N, L, P and the length of the buffer.
 const SIZES: [[u32; 4]; 30] = [
@@ -38,49 +39,46 @@ const SIZES: [[u32; 4]; 30] = [
 
 // A table that was made: its header, and whether zeros follow it.
 pub fn made(rt: &impl Print, t: &[u32]) -> io::Result<()> {
-    if t.len() < 4 {
+    let Some((header, rest)) = t.split_at_checked(4) else {
         return Ok(());
-    }
-    show::numbers(rt, &t[0..4])?;
-    if words::all_zero(&t[4..]) {
-        show::text(rt, b" and zeros\n")
+    };
+    print!(rt; "{}", Words(header))?;
+    if words::all_zero(rest) {
+        println!(rt; " and zeros")
     } else {
-        show::text(rt, b" NOT ZEROS\n")
+        println!(rt; " NOT ZEROS")
     }
 }
 
 // Makes a table in a buffer that holds the same words as another.
 fn make_in(rt: &impl Print, size: [u32; 4], buffer: &mut [u32], before: &[u32]) -> io::Result<()> {
-    let code = tables::making::make(size[0], size[1], size[2], buffer);
-    show::text(rt, b"make, and length:")?;
-    show::numbers(rt, &size)?;
-    show::text(rt, b" ->")?;
-    show::number(rt, code)?;
-    if code == 0 {
-        made(rt, buffer)
-    } else {
-        show::kept(rt, before, buffer)
+    let [n, l, p, _] = size;
+    let outcome = tables::making::make(n, l, p, buffer);
+    print!(rt;
+        "make, and length:{} -> {}",
+        Words(&size),
+        refusal::code(outcome)
+    )?;
+    match outcome {
+        Ok(()) => made(rt, buffer),
+        Err(_) => show::kept(rt, before, buffer),
     }
 }
 
-// The same in a buffer of nines, at most 4,110 of them.
+// The same in a buffer of nines, at most 4,110 of them. No row of `SIZES` has more.
 fn make(rt: &impl Print, size: [u32; 4]) -> io::Result<()> {
     let mut buffer = [9u32; 4110];
     let before = [9u32; 4110];
     let length = size[3] as usize;
-    if length <= 4110 {
-        make_in(rt, size, &mut buffer[0..length], &before[0..length])?;
+    match (buffer.get_mut(..length), before.get(..length)) {
+        (Some(buffer), Some(before)) => make_in(rt, size, buffer, before),
+        _ => Ok(()),
     }
-    Ok(())
-}
-
-fn make_each(rt: &impl Print, sizes: &[[u32; 4]]) -> io::Result<()> {
-    for size in sizes {
-        make(rt, *size)?;
-    }
-    Ok(())
 }
 
 pub fn all(rt: &impl Print) -> io::Result<()> {
-    make_each(rt, &SIZES)
+    for size in &SIZES {
+        make(rt, *size)?;
+    }
+    Ok(())
 }

@@ -1,6 +1,6 @@
 // Who is up to date, by the guarantees chosen, and the order of the search.
 use std::io;
-use telling::{play, show};
+use telling::{play, rows};
 
 // A session has written at server 0; it reads, and then writes, at server 1, which lacks the write.
 const AFTER_A_WRITE: [[u32; 5]; 3] = [[4, 0, 7, 50, 1], [3, 0, 7, 2, 0], [4, 0, 7, 60, 2]];
@@ -14,25 +14,21 @@ const AFTER_A_READ: [[u32; 5]; 5] = [
     [4, 0, 7, 60, 2],
 ];
 
-// The codes for a session with these guarantees.
-fn with_guarantees(rt: &impl Print, guarantees: u32) -> io::Result<()> {
-    let mut t = [0u32; 54];
-    show::text(rt, b"guarantees")?;
-    show::number(rt, guarantees)?;
-    tables::making::make(2, 4, 2, &mut t);
-    steps::step(&mut t, 1, 0, guarantees, 0, 0);
-    show::text(rt, b", after a write:")?;
-    play::codes(rt, &mut t, &AFTER_A_WRITE)?;
-    tables::making::make(2, 4, 2, &mut t);
-    steps::step(&mut t, 1, 0, guarantees, 0, 0);
-    show::text(rt, b", after a read:")?;
-    play::codes(rt, &mut t, &AFTER_A_READ)?;
-    show::text(rt, b"\n")
+// The codes for a session with these guarantees, of steps on a fresh table.
+fn codes_with(rt: &impl Print, guarantees: u32, list: &[[u32; 5]]) -> io::Result<()> {
+    let mut t: [u32; 54] = rows::fresh(2, 4, 2);
+    // The slot is closed, so the open is not refused.
+    let _ = steps::step(&mut t, 1, 0, guarantees, 0, 0);
+    play::codes(rt, &mut t, list)
 }
 
 fn all_guarantees(rt: &impl Print) -> io::Result<()> {
     for guarantees in 0..16 {
-        with_guarantees(rt, guarantees)?;
+        print!(rt; "guarantees {guarantees}, after a write:")?;
+        codes_with(rt, guarantees, &AFTER_A_WRITE)?;
+        print!(rt; ", after a read:")?;
+        codes_with(rt, guarantees, &AFTER_A_READ)?;
+        println!(rt; "")?;
     }
     Ok(())
 }
@@ -59,10 +55,9 @@ const SEARCH: [[u32; 5]; 17] = [
 ];
 
 fn search(rt: &impl Print) -> io::Result<()> {
-    let mut t = [0u32; 56];
-    tables::making::make(3, 2, 2, &mut t);
-    play::play(rt, b"search", &mut t, &SEARCH)?;
-    play::play(rt, b"search, all full", &mut t, &[[4, 0, 7, 99, 7]])
+    let mut t: [u32; 56] = rows::fresh(3, 2, 2);
+    play::play(rt, "search", &mut t, &SEARCH)?;
+    play::play(rt, "search, all full", &mut t, &[[4, 0, 7, 99, 7]])
 }
 
 pub fn all(rt: &impl Print) -> io::Result<()> {

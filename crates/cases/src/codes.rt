@@ -97,32 +97,32 @@ const UNSOUND: [[u32; 5]; 16] = [
 
 fn open_and_close(rt: &impl Print) -> io::Result<()> {
     let mut t = rows::after_ten_rows();
-    play::play(rt, b"open", &mut t, &OPEN)?;
-    play::play(rt, b"close", &mut t, &CLOSE)
+    play::play(rt, "open", &mut t, &OPEN)?;
+    play::play(rt, "close", &mut t, &CLOSE)
 }
 
 fn read(rt: &impl Print) -> io::Result<()> {
     let mut t = rows::after_ten_rows();
-    play::play(rt, b"read", &mut t, &READ)
+    play::play(rt, "read", &mut t, &READ)
 }
 
 fn write(rt: &impl Print) -> io::Result<()> {
     let mut t = rows::after_ten_rows();
-    play::play(rt, b"write", &mut t, &WRITE)
+    play::play(rt, "write", &mut t, &WRITE)
 }
 
 fn exchange(rt: &impl Print) -> io::Result<()> {
     let mut t = rows::after_ten_rows();
-    play::play(rt, b"exchange", &mut t, &EXCHANGE)?;
-    play::play(rt, b"no kind", &mut t, &NO_KIND)
+    play::play(rt, "exchange", &mut t, &EXCHANGE)?;
+    play::play(rt, "no kind", &mut t, &NO_KIND)
 }
 
 // Server 0's log is full, and word 3 of the header is not 0.
 fn unsound(rt: &impl Print) -> io::Result<()> {
     let mut t = rows::after_ten_rows();
-    play::play(rt, b"unsound, before", &mut t, &[[4, 0, 7, 80, 1]])?;
+    play::play(rt, "unsound, before", &mut t, &[[4, 0, 7, 80, 1]])?;
     t[3] = 1;
-    play::play(rt, b"unsound", &mut t, &UNSOUND)
+    play::play(rt, "unsound", &mut t, &UNSOUND)
 }
 
 pub fn all(rt: &impl Print) -> io::Result<()> {

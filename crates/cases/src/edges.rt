@@ -1,6 +1,6 @@
 // The edges that 01 names, and the ends of each range.
 use std::io;
-use telling::play;
+use telling::{play, rows};
 
 // L is 1: a second write at the same server finds the log full, and so does an exchange, which is accepted.
 const ONE_PLACE: [[u32; 5]; 6] = [
@@ -75,21 +75,19 @@ const ENDS: [[u32; 5]; 18] = [
 ];
 
 fn one_place_each(rt: &impl Print) -> io::Result<()> {
-    let mut t = [0u32; 30];
-    tables::making::make(2, 1, 2, &mut t);
-    play::play(rt, b"one place", &mut t, &ONE_PLACE)?;
-    tables::making::make(2, 1, 2, &mut t);
-    play::play(rt, b"behind and full", &mut t, &APART)?;
-    tables::making::make(2, 1, 2, &mut t);
-    play::play(rt, b"full or behind", &mut t, &FULL_OR_BEHIND)
+    let mut t: [u32; 30] = rows::fresh(2, 1, 2);
+    play::play(rt, "one place", &mut t, &ONE_PLACE)?;
+    t = rows::fresh(2, 1, 2);
+    play::play(rt, "behind and full", &mut t, &APART)?;
+    t = rows::fresh(2, 1, 2);
+    play::play(rt, "full or behind", &mut t, &FULL_OR_BEHIND)
 }
 
 fn four_places_each(rt: &impl Print) -> io::Result<()> {
-    let mut t = [0u32; 54];
-    tables::making::make(2, 4, 2, &mut t);
-    play::play(rt, b"reopened slot", &mut t, &REOPENED)?;
-    tables::making::make(2, 4, 2, &mut t);
-    play::play(rt, b"ends of ranges", &mut t, &ENDS)
+    let mut t: [u32; 54] = rows::fresh(2, 4, 2);
+    play::play(rt, "reopened slot", &mut t, &REOPENED)?;
+    t = rows::fresh(2, 4, 2);
+    play::play(rt, "ends of ranges", &mut t, &ENDS)
 }
 
 pub fn all(rt: &impl Print) -> io::Result<()> {

@@ -1,6 +1,6 @@
 // Exchanges: which writes go over, how many, and where they go.
 use std::io;
-use telling::play;
+use telling::{play, rows};
 
 // Server 0 has written twice and server 1 once, apart.
 const APART: [[u32; 5]; 4] = [
@@ -37,23 +37,20 @@ const MOST_2: [[u32; 5]; 6] = [
 ];
 
 fn room(rt: &impl Print) -> io::Result<()> {
-    let mut t = [0u32; 54];
-    tables::making::make(2, 4, 2, &mut t);
-    play::play(rt, b"exchange, before", &mut t, &APART)?;
-    play::play(rt, b"exchange, room", &mut t, &ROOM)
+    let mut t: [u32; 54] = rows::fresh(2, 4, 2);
+    play::play(rt, "exchange, before", &mut t, &APART)?;
+    play::play(rt, "exchange, room", &mut t, &ROOM)
 }
 
 fn no_room(rt: &impl Print) -> io::Result<()> {
-    let mut t = [0u32; 38];
-    tables::making::make(2, 2, 2, &mut t);
-    play::play(rt, b"exchange, before", &mut t, &APART)?;
-    play::play(rt, b"exchange, no room", &mut t, &NO_ROOM)
+    let mut t: [u32; 38] = rows::fresh(2, 2, 2);
+    play::play(rt, "exchange, before", &mut t, &APART)?;
+    play::play(rt, "exchange, no room", &mut t, &NO_ROOM)
 }
 
 fn most_2(rt: &impl Print) -> io::Result<()> {
-    let mut t = [0u32; 54];
-    tables::making::make(2, 4, 2, &mut t);
-    play::play(rt, b"exchange, most 2", &mut t, &MOST_2)
+    let mut t: [u32; 54] = rows::fresh(2, 4, 2);
+    play::play(rt, "exchange, most 2", &mut t, &MOST_2)
 }
 
 pub fn all(rt: &impl Print) -> io::Result<()> {

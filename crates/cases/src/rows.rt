@@ -12,32 +12,38 @@ const ONE_MORE: [[u32; 5]; 7] = [
     [3, 1, 1, 2, 0], // r 1 1 2
 ];
 
+// A list as a run on one table, and one step after another on a second; both leave the same.
+fn both_ways(
+    rt: &impl Print,
+    name: &str,
+    list: &[[u32; 5]],
+    t: &mut [u32],
+    answers: &mut [u32],
+    u: &mut [u32],
+) -> io::Result<()> {
+    play::run(rt, name, t, list, answers)?;
+    play::play(rt, name, u, list)?;
+    print!(rt; "{name}, the steps leave the run's table:")?;
+    show::kept(rt, t, u)
+}
+
 fn ten_rows(rt: &impl Print) -> io::Result<()> {
-    let mut t = [0u32; 48];
-    let mut script = [0u32; 50];
-    let mut answers = [0u32; 50];
-    tables::making::make(2, 4, 1, &mut t);
-    play::put_steps(&mut script, &rows::TEN_ROWS);
-    play::run(rt, b"ten rows", &mut t, &script, &mut answers)?;
-    let mut u = [0u32; 48];
-    tables::making::make(2, 4, 1, &mut u);
-    play::play(rt, b"ten rows", &mut u, &rows::TEN_ROWS)?;
-    show::text(rt, b"ten rows, the steps leave the run's table:")?;
-    show::kept(rt, &t, &u)
+    let mut t: [u32; 48] = rows::fresh(2, 4, 1);
+    let mut u = t;
+    both_ways(
+        rt,
+        "ten rows",
+        &rows::TEN_ROWS,
+        &mut t,
+        &mut [0; 50],
+        &mut u,
+    )
 }
 
 fn one_more(rt: &impl Print) -> io::Result<()> {
-    let mut t = [0u32; 54];
-    let mut script = [0u32; 35];
-    let mut answers = [0u32; 35];
-    tables::making::make(2, 4, 2, &mut t);
-    play::put_steps(&mut script, &ONE_MORE);
-    play::run(rt, b"2 4 2", &mut t, &script, &mut answers)?;
-    let mut u = [0u32; 54];
-    tables::making::make(2, 4, 2, &mut u);
-    play::play(rt, b"2 4 2", &mut u, &ONE_MORE)?;
-    show::text(rt, b"2 4 2, the steps leave the run's table:")?;
-    show::kept(rt, &t, &u)
+    let mut t: [u32; 54] = rows::fresh(2, 4, 2);
+    let mut u = t;
+    both_ways(rt, "2 4 2", &ONE_MORE, &mut t, &mut [0; 35], &mut u)
 }
 
 pub fn all(rt: &impl Print) -> io::Result<()> {

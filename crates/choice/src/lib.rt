@@ -2,150 +2,150 @@
 // crates/rules/specs/Choice.antt, the outcome of the search in specs/Outcome.antt.
 #![tactic(auto)]
 
-ghost use Rattle.std.specs.Prelude.{◌≡◌, ◌<◌, max, length};
+ghost use Rattle.std.specs.Prelude.{ℕ, true, false, ◌≡◌, ◌<◌, ◌&&◌, length};
 ghost use Rattle.words.specs.Tests.{implies};
 ghost use Rattle.vectors.specs.Vector.{vector_of, dominates};
 ghost use Rattle.tables.specs.Layout.{decode};
 ghost use Rattle.tables.specs.Shape.{shape};
-ghost use Rattle.rules.specs.Choice.{start_of, next};
-ghost use Rattle.choice.specs.Outcome.{Asking, session_in, current, read_verdict, write_verdict, verdict, of_worst, value_of, found};
+ghost use Rattle.rules.specs.Choice.{start_of, next, reaches};
+ghost use Rattle.choice.specs.OutcomeLaws.{Finds};
+ghost use Rattle.choice.specs.Outcome.{Asking as Asks, session_in, current, has_bit, read_verdict, write_verdict, value_of, found};
 
-use tables::Table;
+use tables::refusal::Refusal;
+use views::View;
 
-// What a search for a server found.
-#[derive(Clone, Copy)]
-pub enum Choice {
-    At(usize),
-    Behind,
-    Full,
-}
+// The bits of a sum of guarantees: 01, "Numbers".
+const READ_YOUR_WRITES: u32 = 1;
+
+const MONOTONIC_READS: u32 = 2;
+
+const WRITES_FOLLOW_READS: u32 = 4;
+
+const MONOTONIC_WRITES: u32 = 8;
 
 // Does the vector a dominate the vector b, if that is asked for?
+#[tactic(auto, unfolding(words::specs::Tests::implies))]
 fn meets(wanted: bool, a: &[u32], b: &[u32]) -> bool
     requires { length a.now ≡ length b.now }
     ensures { result ≡ implies wanted (dominates (length a.now) (vector_of a.now) (vector_of b.now)) }
 {
-    if wanted {
-        vectors::dominates(a, b)
-    } else {
-        true
-    }
+    !wanted || vectors::dominates(a, b)
 }
 
-// Does server i's vector dominate slot k's read-vector and write-vector, each if it is asked for?
-fn is_current(t: &[u32], z: Table, k: usize, i: usize, reads: bool, writes: bool) -> bool
-    requires { Asking (shape z) t.now k × (i < z.n) }
-    ensures { result ≡ current (shape z) t.now k reads writes i }
-{
-    if meets(reads, views::vector(t, z, i), views::read_vector(t, z, k)) {
-        return meets(writes, views::vector(t, z, i), views::write_vector(t, z, k));
-    }
-    false
-}
-
-// May slot k's session read from server i: 0, or 6 if the server is behind?
-fn read_verdict(t: &[u32], z: Table, k: usize, i: usize) -> u32
-    requires { Asking (shape z) t.now k × (i < z.n) }
-    ensures { result ≡ read_verdict (shape z) (decode (shape z) t.now) (session_in (shape z) t.now k) i }
-{
-    let g = views::guarantees(t, z, k) - 1;
-    if is_current(t, z, k, i, g / 2 % 2 == 1, g % 2 == 1) {
-        return 0;
-    }
-    6
-}
-
-// May slot k's session write to server i: 0, or 6 if the server is behind, or 7 if its log is full?
-fn write_verdict(t: &[u32], z: Table, k: usize, i: usize) -> u32
-    requires { Asking (shape z) t.now k × (i < z.n) }
-    ensures { result ≡ write_verdict (shape z) (decode (shape z) t.now) (session_in (shape z) t.now k) i }
-{
-    let g = views::guarantees(t, z, k) - 1;
-    if is_current(t, z, k, i, g / 4 % 2 == 1, g / 8 % 2 == 1) {
-        if views::count(t, z, i) < z.l {
-            return 0;
-        }
-        return 7;
-    }
-    6
-}
-
-// The same of a server that may be out of reach, for a read or for a write.
-fn verdict_on(t: &[u32], z: Table, k: usize, reach: u32, writing: bool, i: usize) -> u32
-    requires { Asking (shape z) t.now k × (i < z.n) }
-    ensures { result ≡ verdict writing (shape z) (decode (shape z) t.now) (session_in (shape z) t.now k) reach i }
-{
-    if (reach >> i) % 2 == 1 {
-        if writing {
-            return write_verdict(t, z, k, i);
-        }
-        return read_verdict(t, z, k, i);
-    }
-    6
-}
-
-// The server after i in the search order.
+// The server after i in the search order. By a test, since `(i + 1) % n` takes eight times as long.
+#[tactic(auto, unfolding(rules::specs::Choice::next))]
 fn next_of(n: usize, i: usize) -> usize
     requires { i < n }
     ensures { result ≡ next n i }
 {
-    if i + 1 == n {
-        return 0;
-    }
-    i + 1
+    if i + 1 == n { 0 } else { i + 1 }
 }
 
-// Where the search starts: at the last-used server, or at 0.
-fn start_of(t: &[u32], z: Table, k: usize) -> usize
-    requires { Asking (shape z) t.now k }
-    ensures { result ≡ start_of (session_in (shape z) t.now k) }
-{
-    let last = views::last_used(t, z, k);
-    if last == 0 {
-        return 0;
-    }
-    (last - 1) as usize
+// The session of an open slot of a sound table, that asks for a server in reach.
+#[derive(Clone, Copy)]
+pub struct Asking<'a> {
+    pub table: View<'a>,
+    pub slot: usize,
+    pub reach: u32,
+    ghost asks: { ∥ Asks (shape table.sizes) table.words.now slot ∥₁ },
 }
 
-// The greater of two verdicts.
-fn worse(a: u32, b: u32) -> u32
-    ensures { result ≡ max a b }
-{
-    if a < b {
-        return b;
+impl Asking<'_> {
+    // The sum of the session's guarantees.
+    fn guarantees(&self) -> u32
+        ensures { result ≡ (session_in (shape self.now.table.sizes) self.now.table.words.now self.now.slot).guarantees }
+    {
+        self.table.guarantees(self.slot) - 1
     }
-    a
-}
 
-// Nobody serves: behind, or full if some server was.
-fn refusal_of(worst: u32) -> Choice
-    ensures { result ≡ of_worst worst }
-{
-    if worst == 7 {
-        return Choice::Full;
+    // Where the search starts: at the last-used server, or at 0.
+    fn start(&self) -> usize
+        ensures { result ≡ start_of (session_in (shape self.now.table.sizes) self.now.table.words.now self.now.slot) }
+    {
+        self.table.last_used(self.slot).saturating_sub(1) as usize
     }
-    Choice::Behind
-}
 
-// The server for a read, or a write, of slot k's session: the first in the search order that is reachable and serves.
-pub fn search(t: &[u32], z: Table, k: usize, reach: u32, writing: bool) -> Choice
-    requires { Asking (shape z) t.now k }
-    ensures { value_of result ≡ found writing (shape z) (decode (shape z) t.now) (session_in (shape z) t.now k) reach }
-{
-    let mut i = start_of(t, z, k);
-    let mut left = z.n;
-    let mut worst = 6;
-    let choice = loop {
-        if left == 0 {
-            break refusal_of(worst);
+    // Does server i's vector dominate the session's read-vector and write-vector, each if it is asked for?
+    fn is_current(&self, i: usize, reads: bool, writes: bool) -> bool
+        requires { i < self.now.table.sizes.n }
+        ensures { result ≡ current (shape self.now.table.sizes) self.now.table.words.now self.now.slot reads writes i }
+    {
+        let vector = self.table.vector(i);
+        meets(reads, vector, self.table.read_vector(self.slot))
+            && meets(writes, vector, self.table.write_vector(self.slot))
+    }
+
+    // Is server i in reach and current, with each vector asked for by a guarantee's bit?
+    #[tactic(auto, using(std::proofs::lemmas::Nat::Bits::shr_and_one), unfolding(rules::specs::Choice::reaches))]
+    fn passes(&self, i: usize, reads: u32, writes: u32) -> bool
+        requires { i < self.now.table.sizes.n }
+        ensures { let z = shape self.now.table.sizes in let t = self.now.table.words.now in let k = self.now.slot in result ≡ (reaches self.now.reach i && current z t k (has_bit z t k reads) (has_bit z t k writes) i) }
+    {
+        let sum = self.guarantees();
+        (self.reach >> i) & 1 == 1 && self.is_current(i, sum & reads != 0, sum & writes != 0)
+    }
+
+    // May the session read from server i, or is the server out of reach or behind?
+    fn may_read(&self, i: usize) -> Result<(), Refusal>
+        requires { i < self.now.table.sizes.n }
+        ensures { result ≡ read_verdict (shape self.now.table.sizes) self.now.table.words.now self.now.slot self.now.reach i }
+    {
+        if self.passes(i, MONOTONIC_READS, READ_YOUR_WRITES) {
+            Ok(())
+        } else {
+            Err(Refusal::Behind)
         }
-        let verdict = verdict_on(t, z, k, reach, writing, i);
-        if verdict == 0 {
-            break Choice::At(i);
+    }
+
+    // May the session write to server i, or is the server out of reach or behind, or is its log full?
+    fn may_write(&self, i: usize) -> Result<(), Refusal>
+        requires { i < self.now.table.sizes.n }
+        ensures { result ≡ write_verdict (shape self.now.table.sizes) self.now.table.words.now self.now.slot self.now.reach i }
+    {
+        if !self.passes(i, WRITES_FOLLOW_READS, MONOTONIC_WRITES) {
+            Err(Refusal::Behind)
+        } else if self.table.count(i) < self.table.sizes.l {
+            Ok(())
+        } else {
+            Err(Refusal::Full)
         }
-        worst = worse(worst, verdict);
-        i = next_of(z.n, i);
-        left -= 1;
-    };
-    choice
+    }
+
+    // The first server in the search order that serves. Refused as `Full` if some server has no more than a full log against it, else as
+    // `Behind`.
+    fn search<F: Fn(usize) -> Result<(), Refusal>>(&self, may_use: F) -> Result<usize, Refusal>
+        requires { (i : ℕ) → i < self.now.table.sizes.n → F.pre may_use i }
+        ensures { let z = shape self.now.table.sizes in Finds (F.post may_use) z.n (start_of (session_in z self.now.table.words.now self.now.slot)) (value_of result) }
+    {
+        let mut i = self.start();
+        let mut left = self.table.sizes.n;
+        let mut worst = Refusal::Behind;
+        // The scope paper asks for a loop round the servers that breaks with the chosen one. A `for` can't break with a value.
+        loop {
+            if left == 0 {
+                break Err(worst);
+            }
+            match may_use(i) {
+                Ok(()) => break Ok(i),
+                Err(refusal) => worst = worst.max(refusal),
+            }
+            i = next_of(self.table.sizes.n, i);
+            left -= 1;
+        }
+    }
+
+    // The server for a read of the session: the first in the search order that is reachable and up to date, or `Behind`.
+    pub fn search_to_read(&self) -> Result<usize, Refusal>
+        ensures { let z = shape self.now.table.sizes in let t = self.now.table.words.now in value_of result ≡ found false z (decode z t) (session_in z t self.now.slot) self.now.reach }
+    {
+        self.search(|i| self.may_read(i))
+    }
+
+    // The server for a write of the session: the first in the search order that is reachable, up to date and not full. Refused as `Full`
+    // if some reachable server is up to date, else as `Behind`.
+    pub fn search_to_write(&self) -> Result<usize, Refusal>
+        ensures { let z = shape self.now.table.sizes in let t = self.now.table.words.now in value_of result ≡ found true z (decode z t) (session_in z t self.now.slot) self.now.reach }
+    {
+        self.search(|i| self.may_write(i))
+    }
 }

@@ -16,149 +16,133 @@ const EACH_KIND: [[u32; 5]; 5] = [
     [5, 0, 1, 9, 0],
 ];
 
-// Puts the word at its place, and tells it.
-fn put(rt: &impl Print, t: &mut [u32], pair: [u32; 2]) -> io::Result<()> {
-    let i = pair[0] as usize;
-    show::word_at(rt, i, pair[1])?;
-    if i < t.len() {
-        t[i] = pair[1];
-    }
-    Ok(())
-}
-
+// Puts each word at its place, and tells it.
 fn put_all(rt: &impl Print, t: &mut [u32], pairs: &[[u32; 2]]) -> io::Result<()> {
-    for pair in pairs {
-        put(rt, t, *pair)?;
+    for &[i, word] in pairs {
+        let i = i as usize;
+        show::word_at(rt, i, word)?;
+        if let Some(place) = t.get_mut(i) {
+            *place = word;
+        }
     }
     Ok(())
 }
 
 // The codes of each kind of step on the table with some words changed, and what became of it.
-fn damaged(rt: &impl Print, name: &[u8], pairs: &[[u32; 2]]) -> io::Result<()> {
+fn damaged(rt: &impl Print, name: &str, pairs: &[[u32; 2]]) -> io::Result<()> {
     let mut t = rows::after_ten_rows();
-    show::text(rt, name)?;
-    show::text(rt, b":")?;
+    print!(rt; "{name}:")?;
     put_all(rt, &mut t, pairs)?;
     let before = t;
-    show::text(rt, b" ->")?;
+    print!(rt; " ->")?;
     play::codes(rt, &mut t, &EACH_KIND)?;
     show::left(rt, &before, &t)
 }
 
 // The same, of each change by itself.
-fn each(rt: &impl Print, name: &[u8], pairs: &[[u32; 2]]) -> io::Result<()> {
+fn each(rt: &impl Print, name: &str, pairs: &[[u32; 2]]) -> io::Result<()> {
     for pair in pairs {
         damaged(rt, name, &[*pair])?;
     }
     Ok(())
 }
 
-// The first n words.
-fn cut(rt: &impl Print, name: &[u8], t: &mut [u32], n: usize) -> io::Result<()> {
-    show::text(rt, name)?;
-    show::text(rt, b":")?;
-    if n <= t.len() {
-        play::codes(rt, &mut t[0..n], &EACH_KIND)?;
+// The codes of each kind of step on the first n words, and what became of the table.
+fn cut(rt: &impl Print, name: &str, t: &mut [u32], before: &[u32], n: usize) -> io::Result<()> {
+    print!(rt; "{name}:")?;
+    if let Some(front) = t.get_mut(..n) {
+        play::codes(rt, front, &EACH_KIND)?;
     }
-    Ok(())
+    show::left(rt, before, t)
 }
 
 // The first n words of the table, or one word more.
-fn of_length(rt: &impl Print, name: &[u8], n: usize) -> io::Result<()> {
+fn of_length(rt: &impl Print, name: &str, n: usize) -> io::Result<()> {
     let mut t = [0u32; 55];
-    let whole = rows::after_ten_rows();
-    words::copy(&whole, &mut t);
+    words::copy(&rows::after_ten_rows(), &mut t);
     let before = t;
-    cut(rt, name, &mut t, n)?;
-    show::left(rt, &before, &t)
+    cut(rt, name, &mut t, &before, n)
 }
 
 // A header and zeros, of just the length that the header asks for.
-fn fresh(rt: &impl Print, name: &[u8], n: u32, l: u32, p: u32, length: usize) -> io::Result<()> {
+fn fresh(rt: &impl Print, name: &str, n: u32, l: u32, p: u32, length: usize) -> io::Result<()> {
     let mut t = [0u32; 4110];
-    t[0] = n;
-    t[1] = l;
-    t[2] = p;
+    words::copy(&[n, l, p], &mut t);
     let before = t;
-    cut(rt, name, &mut t, length)?;
-    show::left(rt, &before, &t)
+    cut(rt, name, &mut t, &before, length)
 }
 
 fn sound(rt: &impl Print) -> io::Result<()> {
-    damaged(rt, b"sound", &[])?;
-    each(rt, b"sound", &changes::SOUND)
+    damaged(rt, "sound", &[])?;
+    each(rt, "sound", &changes::SOUND)
 }
 
 fn header(rt: &impl Print) -> io::Result<()> {
-    each(rt, b"a", &changes::HEADER)
+    each(rt, "a", &changes::HEADER)
 }
 
 fn lengths(rt: &impl Print) -> io::Result<()> {
-    of_length(rt, b"a, no words", 0)?;
-    of_length(rt, b"a, 1 word", 1)?;
-    of_length(rt, b"a, 3 words", 3)?;
-    of_length(rt, b"a, 4 words", 4)?;
-    of_length(rt, b"a, one word less", 53)?;
-    of_length(rt, b"a, one word more", 55)
+    of_length(rt, "a, no words", 0)?;
+    of_length(rt, "a, 1 word", 1)?;
+    of_length(rt, "a, 3 words", 3)?;
+    of_length(rt, "a, 4 words", 4)?;
+    of_length(rt, "a, one word less", 53)?;
+    of_length(rt, "a, one word more", 55)
 }
 
 fn limits(rt: &impl Print) -> io::Result<()> {
-    fresh(rt, b"a, N 0, length as it asks", 0, 1, 1, 6)?;
-    fresh(rt, b"a, N 17, length as it asks", 17, 1, 1, 414)?;
-    fresh(rt, b"a, L 0, length as it asks", 1, 0, 1, 10)?;
-    fresh(rt, b"a, L 1025, length as it asks", 1, 1025, 1, 4110)?;
-    fresh(rt, b"a, P 0, length as it asks", 1, 1, 0, 10)?;
-    fresh(rt, b"a, P 17, length as it asks", 1, 1, 17, 78)
+    fresh(rt, "a, N 0, length as it asks", 0, 1, 1, 6)?;
+    fresh(rt, "a, N 17, length as it asks", 17, 1, 1, 414)?;
+    fresh(rt, "a, L 0, length as it asks", 1, 0, 1, 10)?;
+    fresh(rt, "a, L 1025, length as it asks", 1, 1025, 1, 4110)?;
+    fresh(rt, "a, P 0, length as it asks", 1, 1, 0, 10)?;
+    fresh(rt, "a, P 17, length as it asks", 1, 1, 17, 78)
 }
 
 fn counts(rt: &impl Print) -> io::Result<()> {
-    each(rt, b"b", &changes::COUNTS)?;
-    damaged(rt, b"b, count below the writes", &[[6, 2], [5, 0]])?;
-    damaged(rt, b"b, count above L", &changes::COUNT_ABOVE_L)
+    each(rt, "b", &changes::COUNTS)?;
+    damaged(rt, "b, count below the writes", &[[6, 2], [5, 0]])?;
+    damaged(rt, "b, count above L", &changes::COUNT_ABOVE_L)
 }
 
 fn entries(rt: &impl Print) -> io::Result<()> {
-    damaged(rt, b"c, item 256", &[[16, 256]])?;
-    damaged(rt, b"c, origin out of range", &[[5, 0], [18, 2]])?;
-    damaged(rt, b"c, greatest origin", &[[5, 0], [18, 4294967295]])?;
-    damaged(rt, b"c, count above the writes", &[[6, 4]])
+    damaged(rt, "c, item 256", &[[16, 256]])?;
+    damaged(rt, "c, origin out of range", &[[5, 0], [18, 2]])?;
+    damaged(rt, "c, greatest origin", &[[5, 0], [18, 4294967295]])?;
+    damaged(rt, "c, count above the writes", &[[6, 4]])
 }
 
 fn clocks(rt: &impl Print) -> io::Result<()> {
-    damaged(rt, b"c, clock gap", &changes::CLOCK_GAP)?;
-    damaged(rt, b"c, first clock 2", &changes::FIRST_CLOCK_2)?;
-    damaged(rt, b"c, first clock 0", &changes::FIRST_CLOCK_0)
+    damaged(rt, "c, clock gap", &changes::CLOCK_GAP)?;
+    damaged(rt, "c, first clock 2", &changes::FIRST_CLOCK_2)?;
+    damaged(rt, "c, first clock 0", &changes::FIRST_CLOCK_0)
 }
 
 fn order(rt: &impl Print) -> io::Result<()> {
-    damaged(rt, b"c, origins down", &changes::ORIGINS_DOWN)?;
-    damaged(rt, b"c, clocks down", &changes::CLOCKS_DOWN)?;
-    damaged(rt, b"c, a write twice", &changes::A_WRITE_TWICE)?;
-    damaged(rt, b"c, origin and clock twice", &changes::A_KEY_TWICE)
+    damaged(rt, "c, origins down", &changes::ORIGINS_DOWN)?;
+    damaged(rt, "c, clocks down", &changes::CLOCKS_DOWN)?;
+    damaged(rt, "c, a write twice", &changes::A_WRITE_TWICE)?;
+    damaged(rt, "c, origin and clock twice", &changes::A_KEY_TWICE)
 }
 
 fn vectors(rt: &impl Print) -> io::Result<()> {
-    each(rt, b"d", &changes::VECTORS)?;
-    damaged(rt, b"d, below the log at home", &[[4, 1], [44, 1], [46, 1]])
+    each(rt, "d", &changes::VECTORS)?;
+    damaged(rt, "d, below the log at home", &[[4, 1], [44, 1], [46, 1]])
 }
 
 fn agreement(rt: &impl Print) -> io::Result<()> {
-    each(rt, b"e", &changes::AGREEMENT)?;
+    each(rt, "e", &changes::AGREEMENT)?;
+    damaged(rt, "e, another write than at home", &changes::ANOTHER_WRITE)?;
+    damaged(rt, "e, a write that home lacks", &changes::HOME_LACKS)?;
     damaged(
         rt,
-        b"e, another write than at home",
-        &changes::ANOTHER_WRITE,
-    )?;
-    damaged(rt, b"e, a write that home lacks", &changes::HOME_LACKS)?;
-    damaged(
-        rt,
-        b"e, an earlier write is missing",
+        "e, an earlier write is missing",
         &changes::EARLIER_MISSING,
     )
 }
 
 fn slots(rt: &impl Print) -> io::Result<()> {
-    each(rt, b"f", &changes::SLOTS)
+    each(rt, "f", &changes::SLOTS)
 }
 
 fn main(rt: HostRuntime) -> io::Result<()> {

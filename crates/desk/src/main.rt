@@ -4,24 +4,25 @@
 
 ghost use Rattle.std.specs.Prelude.{◌≡◌, IfSome, OnOk, length, take};
 ghost use Rattle.std.specs.Io.KnownBytes.{Appends};
+ghost use Rattle.script.specs.Promised.{code_of, count_of};
 ghost use Rattle.desk.specs.Served.{ServePromise, WorkPromise, Answered};
 
-use script::Told;
-use std::io;
-use std::io::{Read, Write};
+use script::NoRoom;
+use std::io::{self, Read, Write};
 
 mod reading;
 
-// How many bytes were read, what `reply` told of them, whether a read failed, and whether all bytes of the reply were taken.
+// How many bytes were read, what `reply` answered to them, whether a read failed, and whether all bytes of the reply were taken.
 #[derive(Drop)]
 struct Served {
     read: usize,
-    told: Told,
+    replied: Result<usize, NoRoom>,
     ended: io::Result<()>,
     written: io::Result<()>,
 }
 
 // Reads until the text is full or the input ends, and writes the reply. A read that fails ends the input.
+// The buffers are lent one by one, as `reply` takes them, whose signature stays.
 fn serve<R: Read, W: Write>(
     input: &mut R,
     output: &mut W,
@@ -31,17 +32,17 @@ fn serve<R: Read, W: Write>(
     answers: &mut [u32],
     out: &mut [u8],
 ) -> Served
-    ensures served { ServePromise table.old steps.old answers.old out.old result.read result.told.code result.told.count text.new table.new steps.new answers.new out.new }
+    ensures served { ServePromise table.old steps.old answers.old out.old result.read (code_of result.replied) (count_of result.replied) text.new table.new steps.new answers.new out.new }
     ensures input { OnOk result.ended (IfSome (R.remaining input.old) (λ xs. take result.read text.new ≡ take (length text.new) xs)) }
-    ensures output { OnOk result.written (Appends (W.contents output.old) (W.contents output.new) (take result.told.count out.new)) }
+    ensures output { OnOk result.written (Appends (W.contents output.old) (W.contents output.new) (take (count_of result.replied) out.new)) }
 {
     let (read, ended) = reading::fill(input, text);
-    let told = script::reply(&text[..read], table, steps, answers, out);
-    let count = told.count;
+    let replied = script::reply(&text[..read], table, steps, answers, out);
+    let count = replied.unwrap_or(0);
     let written = output.write_all(&out[..count]);
     Served {
         read,
-        told,
+        replied,
         ended,
         written,
     }
@@ -49,7 +50,7 @@ fn serve<R: Read, W: Write>(
 
 // Serves in arrays that have room for every script. One byte of text more than the limit is enough to see that a text is too long.
 fn work<R: Read, W: Write>(input: &mut R, output: &mut W) -> Served
-    ensures worked { WorkPromise result.read result.told.code result.told.count }
+    ensures worked { WorkPromise result.read (code_of result.replied) (count_of result.replied) }
     ensures answered { OnOk result.ended (OnOk result.written (IfSome (R.remaining input.old) (λ xs. Answered xs (W.contents output.old) (W.contents output.new)))) }
 {
     let mut text = [0u8; script::MOST_BYTES + 1];

@@ -2,8 +2,7 @@
 ghost use Rattle.std.specs.Prelude.{◌≡◌, ◌<◌, ◌≤◌, ◌+◌, IfOk, OnOk, length, take, drop};
 ghost use Rattle.std.specs.Io.KnownBytes.{Consumes, IsAtEnd};
 
-use std::io;
-use std::io::Read;
+use std::io::{self, Read};
 
 // One read, put into the text from a place on.
 fn read_at<R: Read>(input: &mut R, text: &mut [u8], at: usize) -> io::Result<usize>
@@ -17,11 +16,13 @@ fn read_at<R: Read>(input: &mut R, text: &mut [u8], at: usize) -> io::Result<usi
 }
 
 // Reads until the text is full, the input ends or a read fails. Answers how many bytes now stand at the text's front, and the failure.
+// The count is there beside a failure too, so it is in no `Result`.
 pub fn fill<R: Read>(input: &mut R, text: &mut [u8]) -> (usize, io::Result<()>)
     ensures within { result.0 ≤ length text.new }
     ensures bytes { OnOk result.1 (Consumes (R.remaining input.old) (R.remaining input.new) (take result.0 text.new)) }
     ensures end { OnOk result.1 (result.0 < length text.new → IsAtEnd (R.remaining input.new)) }
 {
+    // Each read says how far the place moves on, so no `for` goes over it.
     let mut at = 0;
     while at < text.len() {
         match read_at(input, text, at) {

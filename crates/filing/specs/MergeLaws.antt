@@ -39,84 +39,78 @@ before-none (suc i) ws w a h y m =
 
 -- ---- what the test says
 
-module _ (i : ℕ) (log : List ℕ) (j : ℕ) (batch : List ℕ) where
+module _ (i : ℕ) (log : List ℕ) (w : Write) where
   -- With none of the log's left it fails.
-  pub log_last-none : i ≡ 0 → log_last i log j batch ≡ false
+  pub log_last-none : i ≡ 0 → log_last i log w ≡ false
   unfolding log_last
   log_last-none h = rw (le-ltb 0 i (omega arith))
 
-  -- Else it compares the two last writes.
-  pub log_last-compares : {w x : Write} → 0 < i → w ≡ entry (drop ((j - 1) * 4) batch) → x ≡ entry (drop ((i - 1) * 4) log)
-      → before w x ≡ log_last i log j batch
+  -- Else it compares with the log's last.
+  pub log_last-compares : {x : Write} → 0 < i → x ≡ entry (drop ((i - 1) * 4) log) → before w x ≡ log_last i log w
   unfolding log_last
-  log_last-compares h p q = ap₂ before p q ∙ rw (lt-ltb 0 i h)
+  log_last-compares h q = ap (before w) q ∙ rw (lt-ltb 0 i h)
 
-  -- If it passes, there is a write of the log's, and the batch's last is before it.
-  pub log_last-some : log_last i log j batch ≡ true → 0 < i
+  -- If it passes, there is a write of the log's, and w is before it.
+  pub log_last-some : log_last i log w ≡ true → 0 < i
   unfolding log_last
   log_last-some h = ltb-true 0 i (and_left (ltb 0 i) _ h)
 
-  pub log_last-true : log_last i log j batch ≡ true → before (entry (drop ((j - 1) * 4) batch)) (entry (drop ((i - 1) * 4) log)) ≡ true
+  pub log_last-true : log_last i log w ≡ true → before w (entry (drop ((i - 1) * 4) log)) ≡ true
   unfolding log_last
   log_last-true h = and_right (ltb 0 i) _ h
 
-  -- If it fails, the batch's last is not before it.
-  pub log_last-false : log_last i log j batch ≡ false → 0 < i → before (entry (drop ((j - 1) * 4) batch)) (entry (drop ((i - 1) * 4) log)) ≡ false
+  -- If it fails, w is not before it.
+  pub log_last-false : log_last i log w ≡ false → 0 < i → before w (entry (drop ((i - 1) * 4) log)) ≡ false
   unfolding log_last
   log_last-false h l = not-true-false _ (λ e. true-not-false (and_both (ltb 0 i) _ (lt-ltb 0 i l) e) h)
 
 -- ---- one turn
 
-module _ {whole : List Write} {batch : List ℕ} {n : ℕ} {log : List ℕ} {i j : ℕ} (so : Merged whole batch n log i j) (room : i + j ≤ n) (fits : n * 4 ≤ length log) where
+module _ {whole : List Write} {n : ℕ} {log : List ℕ} {i : ℕ} {left : List Write} {j : ℕ} (so : Merged whole n log i left j) (room : i + j ≤ n) (fits : n * 4 ≤ length log) where
   -- A write that comes last of those left goes to the last place that is left.
-  pub merged-put : (p q : ℕ) (w : Write) → i + j ≡ suc (p + q) → p ≤ i → q ≤ j
-      → insert_all (entries j batch) (entries i log) ≡ insert_all (entries q batch) (entries p log) ++ (w ∷ [])
-      → Merged whole batch n (put_at (p + q) log w) p q
-  merged-put p q w one h k step =
+  pub merged-put : (p q : ℕ) (others : List Write) (w : Write) → i + j ≡ suc (p + q) → p ≤ i → Ascending others
+      → insert_all left (entries i log) ≡ insert_all others (entries p log) ++ (w ∷ [])
+      → Merged whole n (put_at (p + q) log w) p others q
+  merged-put p q others w one h ascending step =
       let there : (p + q) * 4 + 4 ≤ length log = omega arith in
       let same : entries p (put_at (p + q) log w) ≡ entries p log = entries-same p log (put_at (p + q) log w) (omega arith) (take_put (p + q) log w there p (omega arith)) in
       let more : n - (p + q) ≡ suc (n - (i + j)) = omega arith in
       record {
         in_log = subst Ascending (sym same) (ascending-fewer i p log h so.in_log);
-        in_batch = ascending-fewer j q batch k so.in_batch;
+        in_batch = ascending;
         merged =
             so.merged
             ∙ (ap (λ (g : List Write). g ++ entries (n - (i + j)) (drop ((i + j) * 4) log)) step
-            ∙ (append_assoc (insert_all (entries q batch) (entries p log)) _ _
-            ∙ ap₂ (λ (g rest : List Write). insert_all (entries q batch) g ++ rest) (sym same)
+            ∙ (append_assoc (insert_all others (entries p log)) _ _
+            ∙ ap₂ (λ (g rest : List Write). insert_all others g ++ rest) (sym same)
             (ap (λ m. w ∷ entries (n - (i + j)) (drop (m * 4) log)) one
             ∙ (sym (entries-put (p + q) log w there (n - (i + j))) ∙ ap (λ m. entries m (drop ((p + q) * 4) (put_at (p + q) log w))) (sym more)))));
       }
 
-  -- The log's last write moves.
-  pub merged-log : (x : Write) → 0 < j → log_last i log j batch ≡ true → x ≡ entry (drop ((i - 1) * 4) log)
-      → Merged whole batch n (put_at (i - 1 + j) log x) (i - 1) j
-  merged-log x some last is =
-      let left : 0 < i = log_last-some i log j batch last in
-      let in_log = entries-last i log left in
-      let in_batch = entries-last j batch some in
-      merged-put (i - 1) j x (omega arith) (omega arith) (omega arith) (ap₂ insert_all in_batch in_log
-      ∙ (log-last (entries (j - 1) batch) _ (entries (i - 1) log) (subst Ascending in_batch so.in_batch) _ (log_last-true i log j batch last)
-      ∙ ap₂ (λ (ws : List Write) w. insert_all ws (entries (i - 1) log) ++ (w ∷ [])) (sym in_batch) (sym is)))
+  module _ (others : List Write) (w : Write) (last : left ≡ others ++ (w ∷ [])) where
+    -- The log's last write moves.
+    pub merged-log : (x : Write) → log_last i log w ≡ true → x ≡ entry (drop ((i - 1) * 4) log) → Merged whole n (put_at (i - 1 + j) log x) (i - 1) left j
+    merged-log x passes is =
+        let some : 0 < i = log_last-some i log w passes in
+        merged-put (i - 1) j left x (omega arith) (omega arith) so.in_batch (ap₂ insert_all last (entries-last i log some)
+        ∙ (log-last others w (entries (i - 1) log) (subst Ascending last so.in_batch) _ (log_last-true i log w passes)
+        ∙ ap₂ (λ (ws : List Write) v. insert_all ws (entries (i - 1) log) ++ (v ∷ [])) (sym last) (sym is)))
 
-  -- The batch's last write goes over.
-  pub merged-batch : (w : Write) → 0 < j → log_last i log j batch ≡ false → w ≡ entry (drop ((j - 1) * 4) batch)
-      → Merged whole batch n (put_at (i + (j - 1)) log w) i (j - 1)
-  merged-batch w some last is =
-      let in_batch = entries-last j batch some in
-      merged-put i (j - 1) w (omega arith) (omega arith) (omega arith) (ap (λ (ws : List Write). insert_all ws (entries i log)) in_batch
-      ∙ (inserted-last (entries (j - 1) batch) _ (entries i log) (subst Ascending in_batch so.in_batch) (before-none i log _ so.in_log
-      (log_last-false i log j batch last))
-      ∙ ap (λ v. insert_all (entries (j - 1) batch) (entries i log) ++ (v ∷ [])) (sym is)))
+    -- The batch's last write goes over.
+    pub merged-batch : (q : ℕ) → j ≡ suc q → log_last i log w ≡ false → Merged whole n (put_at (i + q) log w) i others q
+    merged-batch q one fails =
+        let ascending = subst Ascending last so.in_batch in
+        merged-put i q others w (omega arith) (omega arith) (ascending-front others _ ascending) (ap (λ (ws : List Write). insert_all ws (entries i log)) last
+        ∙ inserted-last others w (entries i log) ascending (before-none i log w so.in_log (log_last-false i log w fails)))
 
 -- ---- begin and end
 
 -- No write has moved yet.
-pub merging_start : (log batch : List ℕ) (count k : ℕ) → Merging log batch count k log count k
+pub merging_start : (log : List ℕ) (count : ℕ) (batch : List Write) (k : ℕ) → Merging log count batch k log count batch k
 unfolding entries
-merging_start log batch count k =
+merging_start log count batch k =
     let none : count + k - (count + k) ≡ 0 = omega arith in
-    let whole = insert_all (entries k batch) (entries count log) in
+    let whole = insert_all batch (entries count log) in
     record {
       of_log = omega arith;
       of_batch = omega arith;
@@ -131,35 +125,34 @@ merging_start log batch count k =
     }
 
 -- No write of the batch is left.
-pub merged-end : {whole : List Write} {batch : List ℕ} {n : ℕ} {log : List ℕ} {i j : ℕ} → Merged whole batch n log i j → j ≤ 0 → i ≤ n
+pub merged-end : {whole : List Write} {n : ℕ} {log : List ℕ} {i : ℕ} {left : List Write} {j : ℕ} → Merged whole n log i left j → left ≡ [] → j ≡ 0 → i ≤ n
     → whole ≡ entries n log
-unfolding entries insert_all
-merged-end {batch = batch} {n = n} {log = log} {i = i} {j = j} so h room =
-    let none : j ≡ 0 = omega arith in
-    let at : i + 0 ≡ i = omega arith in
+unfolding insert_all
+merged-end {n = n} {log = log} {i = i} {left = left} {j = j} so none h room =
+    let at : i + j ≡ i = omega arith in
     let all : i + (n - i) ≡ n = omega arith in
     so.merged
-    ∙ (ap (λ m. insert_all (entries m batch) (entries i log) ++ entries (n - (i + m)) (drop ((i + m) * 4) log)) none
+    ∙ (ap (λ (ws : List Write). insert_all ws (entries i log) ++ entries (n - (i + j)) (drop ((i + j) * 4) log)) none
     ∙ (ap (λ m. entries i log ++ entries (n - m) (drop (m * 4) log)) at ∙ (sym (entries-add i (n - i) log) ∙ ap (λ m. entries m log) all)))
 
-module _ {old batch : List ℕ} {count k : ℕ} {log : List ℕ} {i j : ℕ} (so : Merging old batch count k log i j) where
+module _ {old : List ℕ} {count : ℕ} {batch : List Write} {k : ℕ} {log : List ℕ} {i : ℕ} {left : List Write} {j : ℕ} (so : Merging old count batch k log i left j) where
   -- The log's places hold the batch's writes too, each at its place.
-  pub merging-end : j ≤ 0 → (l : ℕ) (g : List Write) → old ≡ places l g → length g ≡ count → count + k ≤ l → Ascending g → Ascending (entries k batch)
-      → log ≡ places l (insert_all (entries k batch) g)
-  merging-end none l g held e room a b =
+  pub merging-end : left ≡ [] → j ≡ 0 → (l : ℕ) (g : List Write) → old ≡ places l g → length g ≡ count → count + k ≤ l → Ascending g → Ascending batch
+      → log ≡ places l (insert_all batch g)
+  merging-end none h l g held e room a b =
       let same : entries count old ≡ g = entries-held l g held e in
-      let all = merged-end (so.in_order (subst Ascending (sym same) a) b) none (omega arith) in
+      let all = merged-end (so.in_order (subst Ascending (sym same) a) b) none h (omega (arith, so.of_log)) in
       places-grown l g (count + k) held (omega arith) room so.size so.behind
-      ∙ ap (places l) (sym all ∙ ap (insert_all (entries k batch)) same)
+      ∙ ap (places l) (sym all ∙ ap (insert_all batch) same)
 
   module _ (fits : (count + k) * 4 ≤ length old) where
     -- A write goes to the last place that is left.
-    pub merging-put : (p q : ℕ) (w : Write) {after : List ℕ} → i + j ≡ suc (p + q) → p ≤ i → q ≤ j → after ≡ put_at (p + q) log w
-        → ((whole : List Write) → Merged whole batch (count + k) log i j → Merged whole batch (count + k) (put_at (p + q) log w) p q)
-        → Merging old batch count k after p q
-    merging-put p q w {after} one h l put turn =
+    pub merging-put : (p q : ℕ) (others : List Write) (w : Write) {after : List ℕ} → i + j ≡ suc (p + q) → p ≤ i → q ≤ j → after ≡ put_at (p + q) log w
+        → ((whole : List Write) → Merged whole (count + k) log i left j → Merged whole (count + k) (put_at (p + q) log w) p others q)
+        → Merging old count batch k after p others q
+    merging-put p q others w {after} one h l put turn =
         let there : (p + q) * 4 + 4 ≤ length log = omega (arith, so.of_log, so.of_batch, so.size) in
-        subst (λ (r : List ℕ). Merging old batch count k r p q) (sym put) (record {
+        subst (λ (r : List ℕ). Merging old count batch k r p others q) (sym put) (record {
           of_log = omega (arith, so.of_log);
           of_batch = omega (arith, so.of_batch);
           size = length-put (p + q) log w there ∙ so.size;
@@ -167,18 +160,18 @@ module _ {old batch : List ℕ} {count k : ℕ} {log : List ℕ} {i j : ℕ} (so
           in_order = λ a b. turn _ (so.in_order a b);
         })
 
-    -- The log's last write moves.
-    pub merging-log : (x : Write) {after : List ℕ} → 0 < j → log_last i log j batch ≡ true → x ≡ entry (drop ((i - 1) * 4) log)
-        → after ≡ put_at (i - 1 + j) log x
-        → Merging old batch count k after (i - 1) j
-    merging-log x some last is put =
-        merging-put (i - 1) j x (omega (arith, log_last-some i log j batch last)) (omega arith) (omega arith) put
-        (λ whole m. merged-log m (omega (arith, so.of_log, so.of_batch)) (omega (arith, so.size)) x some last is)
+    module _ (others : List Write) (w : Write) (last : left ≡ others ++ (w ∷ [])) where
+      -- The log's last write moves.
+      pub merging-log : (x : Write) {after : List ℕ} → log_last i log w ≡ true → x ≡ entry (drop ((i - 1) * 4) log)
+          → after ≡ put_at (i - 1 + j) log x
+          → Merging old count batch k after (i - 1) left j
+      merging-log x passes is put =
+          merging-put (i - 1) j left x (omega (arith, log_last-some i log w passes)) (omega arith) (omega arith) put
+          (λ whole m. merged-log m (omega (arith, so.of_log, so.of_batch)) (omega (arith, so.size)) others w last x passes is)
 
-    -- The batch's last write goes over.
-    pub merging-batch : (w : Write) {after : List ℕ} → 0 < j → log_last i log j batch ≡ false → w ≡ entry (drop ((j - 1) * 4) batch)
-        → after ≡ put_at (i + (j - 1)) log w
-        → Merging old batch count k after i (j - 1)
-    merging-batch w some last is put =
-        merging-put i (j - 1) w (omega arith) (omega arith) (omega arith) put
-        (λ whole m. merged-batch m (omega (arith, so.of_log, so.of_batch)) (omega (arith, so.size)) w some last is)
+      -- The batch's last write goes over.
+      pub merging-batch : (q : ℕ) {after : List ℕ} → j ≡ suc q → log_last i log w ≡ false → after ≡ put_at (i + q) log w
+          → Merging old count batch k after i others q
+      merging-batch q one fails put =
+          merging-put i q others w (omega arith) (omega arith) (omega arith) put
+          (λ whole m. merged-batch m (omega (arith, so.of_log, so.of_batch)) (omega (arith, so.size)) others w last q one fails)

@@ -1,22 +1,18 @@
 -- What holds of a vector that follows one write more, and of what a server lacks of a log's first places. Assumes nothing.
-use Rattle.std.specs.Prelude.{ℕ, ◌+◌, ◌-◌, ◌*◌, ◌<◌, ◌≤◌, ◌≡◌, refl, ltb, length, set, take, drop, List, [], ◌∷◌, ◌++◌}
+use Rattle.std.specs.Prelude.{ℕ, ◌+◌, ◌<◌, ◌≤◌, ◌≡◌, refl, ltb, length, get_or, set, take, drop, map, List, [], ◌∷◌, ◌++◌}
 use Rattle.std.proofs.Math.Path.{sym, ap}
-use Rattle.std.proofs.Common.{◌∙◌, ap₂, subst, arith, lt-ltb, le-ltb, length-append, take_at, append-nil}
+use Rattle.std.proofs.Common.{◌∙◌, arith, lt-ltb, le-ltb, length-append, take_at, take_all, take-append-drop, append-nil, ap₂}
+use Rattle.std.proofs.lemmas.List.{map-append}
 use Rattle.words.specs.Lists.{In, keep, row, upd}
 use Rattle.words.specs.KeepLaws.{keep_append}
 use Rattle.words.specs.SetLaws.{set-row}
 use Rattle.words.specs.TestLaws.{cond-true, cond-false}
 use Rattle.logs.specs.Write.{Write}
 use Rattle.logs.specs.Log.{lacking, follow}
-use Rattle.logs.specs.Places.{entry, entries}
-use Rattle.logs.proofs.PlacesLaws.{length-entries}
-use Rattle.logs.proofs.EntryLaws.{entries-add, entries_next, in-entries}
-
--- What holds of the origins of a log's first places holds of the origin in each.
-pub origin-below : {n : ℕ} (e count : ℕ) (ws : List ℕ) (w : Write) → ((x : Write) → In x (entries count ws) → x.origin < n) → e < count
-    → w ≡ entry (drop (e * 4) ws)
-    → w.origin < n
-origin-below {n} e count ws w h l is = subst (λ (x : Write). x.origin < n) (sym is) (h (entry (drop (e * 4) ws)) (in-entries e count ws l))
+use Rattle.logs.specs.Places.{write_in}
+use Rattle.logs.specs.Stored.{write_of}
+use Rattle.logs.proofs.SaidLaws.{said-next, said-in}
+use Rattle.logs.specs.declared.Entry.{Entry}
 
 -- ---- a vector that follows
 
@@ -26,17 +22,17 @@ unfolding follow
 follow-snoc [] w v = refl
 follow-snoc (x ∷ ws) w v = follow-snoc ws w (upd v x.origin x.clock)
 
--- One place more, as a loop stores its write's clock in a vector's words.
-pub follow-next : (n e : ℕ) (batch : List ℕ) (v : ℕ → ℕ) (w : Write) {vector : List ℕ} → w.origin < n
-    → vector ≡ row n (follow (entries e batch) v)
-    → w ≡ entry (drop (e * 4) batch)
-    → set vector w.origin w.clock ≡ row n (follow (entries (e + 1) batch) v)
-follow-next n e batch v w h so is =
-    let now = entries e batch in
+-- One entry more, as a loop stores its write's clock in a vector's words.
+pub follow-next : (n : ℕ) (batch : List Entry) (e : ℕ) (d : Entry) (v : ℕ → ℕ) {vector : List ℕ} → e < length batch
+    → ((w : Write) → In w (map write_of batch) → w.origin < n)
+    → vector ≡ row n (follow (map write_of (take e batch)) v)
+    → set vector (get_or batch e d).origin (get_or batch e d).clock ≡ row n (follow (map write_of (take (e + 1) batch)) v)
+follow-next n batch e d v h below so =
+    let passed = map write_of (take e batch) in
+    let w = write_of (get_or batch e d) in
     ap (λ (r : List ℕ). set r w.origin w.clock) so
-    ∙ (set-row n (follow now v) w.origin w.clock h
-    ∙ ap (row n) (sym (follow-snoc now w v)
-    ∙ ap (λ (g : List Write). follow g v) (ap (λ x. now ++ (x ∷ [])) is ∙ sym (entries_next e batch))))
+    ∙ (set-row n (follow passed v) w.origin w.clock (below w (said-in write_of batch e d h))
+    ∙ ap (row n) (sym (follow-snoc passed w v) ∙ ap (λ (g : List Write). follow g v) (sym (said-next write_of batch e d h))))
 
 -- ---- what a server lacks
 
@@ -57,33 +53,37 @@ module _ (v : ℕ → ℕ) (w : Write) (front : List Write) where
   lacking-none h =
       sym (ap (λ (last : List Write). front ++ last) (cond-false (ltb (v w.origin) w.clock) _ _ (le-ltb _ _ h)) ∙ append-nil front)
 
-module _ (v : ℕ → ℕ) (e : ℕ) (log : List ℕ) where
-  -- One place more.
-  pub lacking-next : (w : Write) {sent after : List Write} → sent ≡ lacking v (entries e log) → w ≡ entry (drop (e * 4) log)
-      → after ≡ sent ++ lacking v (w ∷ [])
-      → after ≡ lacking v (entries (e + 1) log)
-  lacking-next w so is turn =
-      turn ∙ (ap₂ (λ (front : List Write) x. front ++ lacking v (x ∷ [])) so is
-      ∙ (sym (lacking-append v (entries e log) _) ∙ ap (lacking v) (sym (entries_next e log))))
+-- A loop over a log's places has come to place e, and has sent these.
+module _ (v : ℕ → ℕ) (ps : List (List ℕ)) (e : ℕ) (sent : List Write) (so : sent ≡ lacking v (map write_in (take e ps))) where
+  module _ (h : e < length ps) (d : List ℕ) (w : Write) (is : w ≡ write_in (get_or ps e d)) where
+    lacking-next : lacking v (map write_in (take (e + 1) ps)) ≡ sent ++ lacking v (w ∷ [])
+    lacking-next =
+        ap (lacking v) (said-next write_in ps e d h)
+        ∙ (lacking-append v (map write_in (take e ps)) _ ∙ ap₂ (λ (front : List Write) x. front ++ lacking v (x ∷ [])) (sym so) (sym is))
 
-  module _ (count k : ℕ) (batch : List ℕ) (h : e ≤ count) (so : entries k batch ≡ lacking v (entries e log)) where
-    -- What it lacks of the first e places comes first of what it lacks of all.
-    pub lacking-front : lacking v (entries count log) ≡ entries k batch ++ lacking v (entries (count - e) (drop (e * 4) log))
-    lacking-front =
-        let all : count ≡ e + (count - e) = omega arith in
-        ap (λ n. lacking v (entries n log)) all
-        ∙ (ap (lacking v) (entries-add e (count - e) log)
-        ∙ (lacking-append v (entries e log) _ ∙ ap (λ (g : List Write). g ++ lacking v (entries (count - e) (drop (e * 4) log))) (sym so)))
+    -- A write that the server lacks comes behind the others.
+    pub lacking-sent : v w.origin < w.clock → sent ++ (w ∷ []) ≡ lacking v (map write_in (take (e + 1) ps))
+    lacking-sent l = lacking-one v w sent l ∙ sym lacking-next
 
-    -- As many writes of it as the batch has are the batch's.
-    pub lacking-take : entries k batch ≡ take k (lacking v (entries count log))
-    lacking-take = sym (ap (take k) lacking-front ∙ take_at (entries k batch) _ k (length-entries k batch))
+    -- One that it has adds nothing.
+    pub lacking-passed : w.clock ≤ v w.origin → sent ≡ lacking v (map write_in (take (e + 1) ps))
+    lacking-passed l = lacking-none v w sent l ∙ sym lacking-next
 
-    -- There are at least as many.
-    pub lacking-least : k ≤ length (lacking v (entries count log))
-    lacking-least =
-        omega (arith, ap length lacking-front, length-entries k batch, length-append (entries k batch) (lacking v (entries (count - e) (drop (e * 4) log))))
+  -- What it lacks of the first places comes first of what it lacks of all.
+  lacking-front : lacking v (map write_in ps) ≡ sent ++ lacking v (map write_in (drop e ps))
+  lacking-front =
+      ap (λ r. lacking v (map write_in r)) (sym (take-append-drop e ps))
+      ∙ (ap (lacking v) (map-append write_in (take e ps) (drop e ps))
+      ∙ (lacking-append v (map write_in (take e ps)) _ ∙ ap (λ (g : List Write). g ++ lacking v (map write_in (drop e ps))) (sym so)))
 
-    -- With no place left there are no more.
-    pub lacking-all : e ≡ count → k ≡ length (lacking v (entries count log))
-    lacking-all all = sym (length-entries k batch) ∙ (ap length so ∙ ap (λ n. length (lacking v (entries n log))) all)
+  -- As many writes of it as were sent are those.
+  pub lacking-take : (k : ℕ) → length sent ≡ k → sent ≡ take k (lacking v (map write_in ps))
+  lacking-take k many = sym (ap (take k) lacking-front ∙ take_at sent _ k many)
+
+  -- There are at least as many.
+  pub lacking-least : length sent ≤ length (lacking v (map write_in ps))
+  lacking-least = omega (arith, ap length lacking-front, length-append sent (lacking v (map write_in (drop e ps))))
+
+  -- With no place left there are no more.
+  pub lacking-all : length ps ≤ e → length sent ≡ length (lacking v (map write_in ps))
+  lacking-all all = ap length so ∙ ap (λ r. length (lacking v (map write_in r))) (take_all e ps all)

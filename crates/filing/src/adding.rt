@@ -1,13 +1,13 @@
-// A log that grows: a write added at the end, and writes added each at its place.
-ghost use Rattle.std.specs.Prelude.{◌≡◌, List, [], ◌∷◌, ◌++◌, ℕ, ◌+◌, ◌*◌, ◌<◌, ◌≤◌, length};
+// A log that grows: a write added at the end, and writes added each at its place. 01 wants it lent as a part of the table's words, so its count stands beside it.
+ghost use Rattle.std.specs.Prelude.{◌≡◌, List, [], ◌∷◌, ◌++◌, ℕ, ◌+◌, ◌*◌, ◌<◌, ◌≤◌, length, map};
 ghost use Rattle.logs.specs.Write.{Write};
 ghost use Rattle.logs.specs.Ascending.{Ascending};
 ghost use Rattle.logs.specs.Log.{insert_all};
-ghost use Rattle.logs.specs.Places.{places, entries};
+ghost use Rattle.logs.specs.Places.{places};
 ghost use Rattle.logs.specs.Stored.{write_of};
 ghost use Rattle.filing.specs.Merge.{log_last};
 
-use logs::{Entry, before, entry_at, put};
+use logs::{Entry, entry_at, put};
 
 // Adds a write at the end.
 pub fn append(log: &mut [u32], count: usize, w: Entry)
@@ -17,34 +17,31 @@ pub fn append(log: &mut [u32], count: usize, w: Entry)
     put(log, count, w);
 }
 
-// Of the log's first i writes and the batch's first j, is the last of all one of the log's?
-fn log_last(log: &[u32], i: usize, batch: &[u32], j: usize) -> bool
-    requires { (i * 4 ≤ length log.now) × (0 < j) × (j * 4 ≤ length batch.now) }
-    ensures { result ≡ log_last i log.now j batch.now }
+// Does the last of the log's first i writes come behind w?
+fn log_last(log: &[u32], i: usize, w: Entry) -> bool
+    requires { i * 4 ≤ length log.now }
+    ensures { result ≡ log_last i log.now (write_of w) }
 {
-    if i == 0 {
-        return false;
-    }
-    before(entry_at(batch, j - 1), entry_at(log, i - 1))
+    0 < i && w.is_before(entry_at(log, i - 1))
 }
 
-// Adds the first k writes of a batch, each at its place in the write order. Both stand in that order. From the last place down,
-// so that each write of the log moves once.
-pub fn insert_all(log: &mut [u32], count: usize, batch: &[u32], k: usize)
-    requires { ((count + k) * 4 ≤ length log.old) × (k * 4 ≤ length batch.now) }
-    ensures { (l : ℕ) (g : List Write) → log.old ≡ places l g → length g ≡ count → count + k ≤ l → Ascending g → Ascending (entries k batch.now) → log.new ≡ places l (insert_all (entries k batch.now) g) }
+// Adds the writes of a batch, each at its place in the write order. Both stand in that order. From the last place down, so that each
+// write of the log moves once.
+pub fn insert_all(log: &mut [u32], count: usize, batch: &[Entry])
+    requires { (count + length batch.now) * 4 ≤ length log.old }
+    ensures { (l : ℕ) (g : List Write) → log.old ≡ places l g → length g ≡ count → count + length batch.now ≤ l → Ascending g → Ascending (map write_of batch.now) → log.new ≡ places l (insert_all (map write_of batch.now) g) }
 {
+    // Two lists at two paces: no `for` goes over either.
     let mut i = count;
-    let mut j = k;
-    while 0 < j {
-        if log_last(log, i, batch, j) {
-            let x = entry_at(log, i - 1);
+    let mut left = batch;
+    while let [others @ .., w] = left {
+        if log_last(log, i, *w) {
             i -= 1;
-            put(log, i + j, x);
+            let x = entry_at(log, i);
+            put(log, i + left.len(), x);
         } else {
-            let w = entry_at(batch, j - 1);
-            j -= 1;
-            put(log, i + j, w);
+            left = others;
+            put(log, i + left.len(), *w);
         }
     }
 }

@@ -1,24 +1,18 @@
 // What a read looks for in a log.
-ghost use Rattle.std.specs.Prelude.{◌≡◌, ◌*◌, ◌≤◌, length};
+ghost use Rattle.std.specs.Prelude.{◌≡◌, map};
 ghost use Rattle.logs.specs.Log.{last_on};
-ghost use Rattle.logs.specs.Places.{entries};
+ghost use Rattle.logs.specs.Places.{write_in};
 ghost use Rattle.filing.specs.Found.{last_of};
 
-use crate::Last;
-use logs::entry_at;
+use logs::Entry;
 
 // The last write on an item in the log's order.
-pub fn last_on(log: &[u32], count: usize, item: u32) -> Last
-    requires { count * 4 ≤ length log.now }
-    ensures { last_of result ≡ last_on item (entries count log.now) }
+pub fn last_on(log: &[[u32; 4]], item: u32) -> Option<Entry>
+    ensures { last_of result ≡ last_on item (map write_in log.now) }
 {
-    let mut e = count;
-    while 0 < e {
-        e -= 1;
-        let w = entry_at(log, e);
-        if w.item == item {
-            return Last::On(w);
-        }
-    }
-    Last::Nothing
+    log.iter()
+        .rev()
+        .copied()
+        .map(Entry::from)
+        .find(|w| w.item == item)
 }

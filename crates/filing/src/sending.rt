@@ -1,60 +1,42 @@
 // What goes over in an exchange: the writes that a vector lacks, and the vector that follows them.
-ghost use Rattle.std.specs.Prelude.{◌≡◌, [], ◌∷◌, ◌++◌, ◌+◌, ◌*◌, ◌<◌, ◌≤◌, min, length, take};
+ghost use Rattle.std.specs.Prelude.{◌≡◌, ◌<◌, min, length, take, map};
 ghost use Rattle.words.specs.Lists.{In, row};
 ghost use Rattle.vectors.specs.Vector.{vector_of};
 ghost use Rattle.logs.specs.Write.{Write};
 ghost use Rattle.logs.specs.Log.{lacking, follow};
-ghost use Rattle.logs.specs.Places.{entries};
+ghost use Rattle.logs.specs.Places.{write_in};
 ghost use Rattle.logs.specs.Stored.{write_of};
 
-use logs::{Entry, entry_at, put};
+use logs::Entry;
 
-// Puts the write into place k of the batch if the vector lacks it, and answers how many places are full then.
-fn send_if_lacking(vector: &[u32], w: Entry, batch: &mut [u32], k: usize) -> usize
-    requires { (w.origin < length vector.now) × (k * 4 + 4 ≤ length batch.old) }
-    ensures how_many { result ≤ k + 1 }
-    ensures which { entries result batch.new ≡ entries k batch.old ++ lacking (vector_of vector.now) (write_of w ∷ []) }
+// Copies to the batch the first writes that the vector lacks, as many as it has room for, and answers how many there were.
+pub fn lacking(log: &[[u32; 4]], vector: &[u32], batch: &mut [Entry]) -> usize
+    requires { (w : Write) → In w (map write_in log.now) → w.origin < length vector.now }
+    ensures how_many { result ≡ min (length (lacking (vector_of vector.now) (map write_in log.now))) (length batch.old) }
+    ensures which { map write_of (take result batch.new) ≡ take result (lacking (vector_of vector.now) (map write_in log.now)) }
+    ensures len { length batch.new ≡ length batch.old }
 {
-    let j = w.origin as usize;
-    if vector[j] < w.clock {
-        put(batch, k, w);
-        k + 1
-    } else {
-        k
-    }
-}
-
-// Copies to the batch the first writes that the vector lacks, at most so many, and answers how many there were.
-pub fn lacking(log: &[u32], count: usize, vector: &[u32], most: usize, batch: &mut [u32]) -> usize
-    requires places { (count * 4 ≤ length log.now) × (most * 4 ≤ length batch.old) }
-    requires origins { (w : Write) → In w (entries count log.now) → w.origin < length vector.now }
-    ensures how_many { result ≡ min (length (lacking (vector_of vector.now) (entries count log.now))) most }
-    ensures which { entries result batch.new ≡ take result (lacking (vector_of vector.now) (entries count log.now)) }
-{
+    // A place for each write that goes over, so `k` counts no places of the log.
     let mut k = 0;
-    let mut e = 0;
-    while e < count {
-        if most <= k {
+    for place in log {
+        if k == batch.len() {
             return k;
         }
-        let w = entry_at(log, e);
-        k = send_if_lacking(vector, w, batch, k);
-        e += 1;
+        let w = Entry::from(*place);
+        if vector[w.origin as usize] < w.clock {
+            batch[k] = w;
+            k += 1;
+        }
     }
     k
 }
 
-// Lets a vector follow the first k writes of a batch: each sets its origin's component to its clock.
-pub fn follow(vector: &mut [u32], batch: &[u32], k: usize)
-    requires places { k * 4 ≤ length batch.now }
-    requires origins { (w : Write) → In w (entries k batch.now) → w.origin < length vector.old }
-    ensures { vector.new ≡ row (length vector.old) (follow (entries k batch.now) (vector_of vector.old)) }
+// Lets a vector follow a batch: each write sets its origin's component to its clock.
+pub fn follow(vector: &mut [u32], batch: &[Entry])
+    requires { (w : Write) → In w (map write_of batch.now) → w.origin < length vector.old }
+    ensures { vector.new ≡ row (length vector.old) (follow (map write_of batch.now) (vector_of vector.old)) }
 {
-    let mut e = 0;
-    while e < k {
-        let w = entry_at(batch, e);
-        let j = w.origin as usize;
-        vector[j] = w.clock;
-        e += 1;
+    for w in batch {
+        vector[w.origin as usize] = w.clock;
     }
 }

@@ -1,5 +1,6 @@
 pub mod Obeys
-pub mod ComesLaws
+pub mod CameLaws
+pub mod SeenLaws
 pub mod SessionLaws
 pub mod GrowLaws
 pub mod ExchangeLaws

@@ -12,42 +12,42 @@ use Rattle.tables.proofs.ViewLaws.{room-view, length-view, shut-view, open-view}
 use Rattle.tables.proofs.PutLaws.{put-open, put-closed}
 use Rattle.rules.specs.Step.{Answer, opens, closes, refused, done}
 use Rattle.rules.specs.Rules.{new_session, opening, closing, obeyed}
-use Rattle.kinds.specs.Obeys.{Held, Obeys}
-use Rattle.kinds.specs.ComesLaws.{comes, comes-refused}
+use Rattle.kinds.specs.Obeys.{Held, Obeyed}
+use Rattle.kinds.specs.CameLaws.{came, came-refused}
 
 module _ {z : Size} {t : List ℕ} (held : Held z t) where
   -- Slot k, whose first word was read.
   module _ (k : ℕ) (below : k < z.p) {first : ℕ} (read : first ≡ get_or t (guarantees_at z k) 0) where
     -- 01: "Open sets guarantees".
-    pub open_done : (g : ℕ) {at : ℕ} {r : Answer} → first ≡ 0 → at ≡ slot_at z k → r ≡ done → Obeys z t (opens k g) r (set t at (g + 1))
+    pub open_done : (g : ℕ) {at : ℕ} {r : Answer} → first ≡ 0 → at ≡ slot_at z k → r ≡ done → Obeyed z t (opens k g) r (set t at (g + 1))
     unfolding obeyed opening new_session guarantees_at
     open_done g shut begins answer =
         let s = decode z t in
         let is-closed = shut-view held k below (sym read ∙ shut) in
-        comes (ap (opening s k g) is-closed) answer
+        came (ap (opening s k g) is-closed) answer
         (ap₂ (set t) begins (add-one g)
         ∙ (ap (λ (ws : List ℕ). set ws (slot_at z k) (suc g)) held.words ∙ put-open z s (room-view held) k below g is-closed))
 
     -- "open of an open slot"
-    pub open-refused : (g : ℕ) {r : Answer} → (first ≡ 0 → ⊥) → r ≡ refused 3 → Obeys z t (opens k g) r t
+    pub open-refused : (g : ℕ) {r : Answer} → (first ≡ 0 → ⊥) → r ≡ refused 3 → Obeyed z t (opens k g) r t
     unfolding obeyed opening
-    open-refused g some answer = comes-refused held 3 (ap (opening (decode z t) k g) (open-view held k below (λ e. some (read ∙ e)))) answer
+    open-refused g some answer = came-refused held 3 (ap (opening (decode z t) k g) (open-view held k below (λ e. some (read ∙ e)))) answer
 
     -- "Close zeros the slot." The slot's words are lent from one place to another.
     pub close-done : {r : Answer} {left : List ℕ} {from to : ℕ} → (first ≡ 0 → ⊥) → from ≡ slot_at z k → to ≡ from + (2 * z.n + 2)
         → left ≡ replicate (length (take (to - from) (drop from t))) 0
         → r ≡ done
-        → Obeys z t (closes k) r (take from t ++ (left ++ drop (to - from) (drop from t)))
+        → Obeyed z t (closes k) r (take from t ++ (left ++ drop (to - from) (drop from t)))
     unfolding obeyed closing
     close-done some begins ends cleared answer =
         let s = decode z t in
         let words = 2 * z.n + 2 in
         let many = length-lent t words begins ends (omega (arith, length-view held, slot-within z k below)) in
-        comes (ap (closing s k) (open-view held k below (λ e. some (read ∙ e)))) answer
+        came (ap (closing s k) (open-view held k below (λ e. some (read ∙ e)))) answer
         (lent t words begins ends (cleared ∙ ap (λ n. replicate n 0) many)
         ∙ (ap (λ (ws : List ℕ). splice (slot_at z k) words ws (replicate words 0)) held.words ∙ put-closed z s (room-view held) k below))
 
     -- "close .. on a closed one"
-    pub close-refused : {r : Answer} → first ≡ 0 → r ≡ refused 3 → Obeys z t (closes k) r t
+    pub close-refused : {r : Answer} → first ≡ 0 → r ≡ refused 3 → Obeyed z t (closes k) r t
     unfolding obeyed closing
-    close-refused shut answer = comes-refused held 3 (ap (closing (decode z t) k) (shut-view held k below (sym read ∙ shut))) answer
+    close-refused shut answer = came-refused held 3 (ap (closing (decode z t) k) (shut-view held k below (sym read ∙ shut))) answer

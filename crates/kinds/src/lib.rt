@@ -2,49 +2,31 @@
 // answers and leaves in the table is defined in crates/rules/specs/Rules.antt; the promise of each is `Obeys` in specs/Obeys.antt.
 #![tactic(auto)]
 
-ghost use Rattle.std.specs.Prelude.{◌≡◌, ◌≤◌};
-ghost use Rattle.rules.specs.Step.{refused, done};
+ghost use Rattle.std.specs.Prelude.{◌≡◌, [], ◌∷◌};
+ghost use Rattle.rules.specs.Step.{answer_words};
 ghost use Rattle.kinds.specs.Obeys.{answer_of};
+
+use tables::refusal::Refusal;
 
 pub mod exchanging;
 pub mod sessions;
 
-// 01, "Steps": an answer's five words.
-#[derive(Clone, Copy)]
+// 01, "Steps": what a step that is done answers beside the code 0.
+#[derive(Clone, Copy, PartialEq, Eq, Debug, Default)]
 pub struct Answer {
-    pub code: u32,
     pub server: u32,
     pub origin: u32,
     pub clock: u32,
     pub value: u32,
 }
 
-impl Answer {
-    // A code and four zeros.
-    fn bare(code: u32) -> Self
-        ensures { answer_of result ≡ refused code }
-    {
-        Answer {
-            code,
-            server: 0,
-            origin: 0,
-            clock: 0,
-            value: 0,
-        }
-    }
-
-    // A refusal answers its code, which is not 0, and four zeros.
-    pub fn refusal(code: u32) -> Self
-        requires { 1 ≤ code }
-        ensures { answer_of result ≡ refused code }
-    {
-        Answer::bare(code)
-    }
-
-    // Done, with zeros: what open and close answer.
-    pub fn done() -> Self
-        ensures { answer_of result ≡ done }
-    {
-        Answer::bare(0)
+// An answer's five words: its code, and behind 0 what was answered. A refusal has four zeros.
+#[tactic(auto, unfolding(rules::specs::Step::answer_words, rules::specs::Step::refused))]
+pub fn words(outcome: Result<Answer, Refusal>) -> [u32; 5]
+    ensures { result ≡ answer_words (answer_of outcome ∷ []) }
+{
+    match outcome {
+        Ok(answer) => [0, answer.server, answer.origin, answer.clock, answer.value],
+        Err(refusal) => [u32::from(refusal), 0, 0, 0, 0],
     }
 }

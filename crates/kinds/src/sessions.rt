@@ -1,36 +1,34 @@
 // Open and close: a slot's session begins and ends.
 ghost use Rattle.std.specs.Prelude.{◌<◌};
-ghost use Rattle.tables.specs.Shape.{shape};
 ghost use Rattle.tables.specs.Size.{sums};
 ghost use Rattle.rules.specs.Step.{opens, closes};
-ghost use Rattle.kinds.specs.Obeys.{answer_of, Held, Obeys};
+ghost use Rattle.kinds.specs.Obeys.{answer_of, Sound, Obeys};
 
 use crate::Answer;
-use tables::Table;
+use tables::refusal::Refusal;
+use views::Store;
 
-// Opens slot k with the chosen guarantees: 0, or 3 if the slot is open.
-pub fn open_slot(t: &mut [u32], z: Table, k: usize, guarantees: u32) -> Answer
-    requires { Held (shape z) t.old × (k < z.p) × (guarantees < sums) }
-    ensures { Obeys (shape z) t.old (opens k guarantees) (answer_of result) t.new }
+// Opens slot k with the chosen guarantees. Refused as `SlotState` if the slot is open.
+pub fn open_slot(store: &mut Store<'_>, k: usize, guarantees: u32) -> Result<Answer, Refusal>
+    requires { Sound store.old × (k < store.old.sizes.p) × (guarantees < sums) }
+    ensures { Obeys store.old (opens k guarantees) (answer_of result) store.new }
 {
-    if views::guarantees(t, z, k) != 0 {
-        return Answer::refusal(3);
+    if store.view().guarantees(k) != 0 {
+        return Err(Refusal::SlotState);
     }
-    let a = z.slot_at(k);
-    t[a] = guarantees + 1;
-    Answer::done()
+    store.words[store.sizes.slot_at(k)] = guarantees + 1;
+    Ok(Answer::default())
 }
 
-// Closes slot k: 0, or 3 if the slot is closed.
-pub fn close_slot(t: &mut [u32], z: Table, k: usize) -> Answer
-    requires { Held (shape z) t.old × (k < z.p) }
-    ensures { Obeys (shape z) t.old (closes k) (answer_of result) t.new }
+// Closes slot k. Refused as `SlotState` if the slot is closed.
+pub fn close_slot(store: &mut Store<'_>, k: usize) -> Result<Answer, Refusal>
+    requires { Sound store.old × (k < store.old.sizes.p) }
+    ensures { Obeys store.old (closes k) (answer_of result) store.new }
 {
-    if views::guarantees(t, z, k) == 0 {
-        return Answer::refusal(3);
+    if store.view().guarantees(k) == 0 {
+        return Err(Refusal::SlotState);
     }
-    let a = z.slot_at(k);
-    let e = a + (2 * z.n + 2);
-    words::clear(&mut t[a..e]);
-    Answer::done()
+    let at = store.sizes.slot_at(k);
+    words::clear(&mut store.words[at..at + (2 * store.sizes.n + 2)]);
+    Ok(Answer::default())
 }

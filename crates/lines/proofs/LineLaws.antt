@@ -1,159 +1,186 @@
 -- From a line's numbers in words to the line. Assumes nothing.
-use Rattle.std.specs.Prelude.{ℕ, zero, suc, ◌+◌, ◌≤◌, ◌<◌, true, List, [], ◌∷◌, ◌≡◌, refl, eqb, length, get_or, take, replicate}
-use Rattle.std.proofs.Math.Option.{Option, none, some, none-ne-some, some-injective}
-use Rattle.std.proofs.Math.Path.{sym, ap}
-use Rattle.std.proofs.Common.{◌∙◌, subst, arith, eqb-true, eq-eqb, ne_eqb, length-drop, get_or-drop}
-use Rattle.std.proofs.Math.ListN.{drop}
-use Rattle.words.specs.Tests.{zeros}
-use Rattle.words.specs.TestLaws.{cond-true, cond-false, and_left, and_right, replicate-zeros}
-use Rattle.words.specs.SpliceLaws.{zeros-drop}
+use Rattle.std.specs.Prelude.{ℕ, ◌+◌, ◌-◌, ◌≤◌, ◌<◌, false, List, [], ◌∷◌, ◌++◌, ◌≡◌, refl, eqb, length, get_or, take, drop, slice_range, Option, None, Some}
+use Rattle.std.proofs.Common.{append_assoc, length-append, take-append-drop, drop_at, sym, ◌∙◌, ap, arith, eq-eqb, ne_eqb, take_all, length-drop, length-take-le, drop_of_length-le}
+use Rattle.std.specs.Borrow.{Bor}
+use Rattle.words.specs.TestLaws.{cond-elim, cond-false}
 use Rattle.rules.specs.Step.{Step}
 use Rattle.lines.specs.Read.{Got, chain, read_number, read_fields, kind_of, count_of, step_with, read_arguments, read_step, read_sizes_behind, read_sizes, read_line}
-use Rattle.lines.specs.Found.{number_in, NumberPromise, fields_in, PlaceWithin, FieldsPromise, line_in, LineWithin, LinePromise, NextPromise}
-use Rattle.lines.proofs.FoundLaws.{byte-there, nothing-there}
-use Rattle.lines.specs.declared.Number.{Number}
-use Rattle.lines.specs.declared.Number.TheVariants as number
-use Rattle.lines.specs.declared.Place.{Place}
-use Rattle.lines.specs.declared.Place.TheVariants as place
-use Rattle.lines.specs.declared.Line.{Line}
-use Rattle.lines.specs.declared.Line.TheVariants as line
+use Rattle.lines.specs.Kinds.{number_of}
+use Rattle.lines.specs.Found.{got, Same, words_of, words_read, line_words, moved_behind, NextPromise}
+use Rattle.lines.specs.declared.kind.Kind.{Kind}
+use Rattle.lines.specs.declared.kind.Kind.TheVariants.{Open, Close, Read, Write, Exchange}
 use Rattle.lines.specs.declared.Reader.{Reader}
+use Rattle.std.proofs.lemmas.Option.{same_Some}
+use Rattle.lines.proofs.GotLaws.{none-some}
+use Rattle.lines.proofs.ReadLaws.{read-step, read-sizes}
 
--- ---- words of which the last are 0
+-- ---- the sizes
 
-zeros-get_or : (ws : List ℕ) (j : ℕ) → zeros ws ≡ true → get_or ws j 0 ≡ 0
-unfolding zeros
-zeros-get_or [] j h = refl
-zeros-get_or (w ∷ ws) zero h = eqb-true w 0 (and_left (eqb w 0) (zeros ws) h)
-zeros-get_or (w ∷ ws) (suc j) h = zeros-get_or ws j (and_right (eqb w 0) (zeros ws) h)
-
--- What is not among the first is 0 either way.
-get_or_front : (k : ℕ) (ws : List ℕ) (j : ℕ) → zeros (drop k ws) ≡ true → get_or (take k ws) j 0 ≡ get_or ws j 0
-get_or_front zero ws j h = sym (zeros-get_or ws j h)
-get_or_front (suc k) [] j h = refl
-get_or_front (suc k) (w ∷ ws) zero h = refl
-get_or_front (suc k) (w ∷ ws) (suc j) h = get_or_front k ws j h
-
--- ---- from the numbers to the line
-
-module _ (text : List ℕ) (from count n : ℕ) (left : List ℕ) {r : Place} (found : FieldsPromise text from count (replicate n 0) r left) where
-  others-zero : zeros (drop count left) ≡ true
-  others-zero = ap zeros found.kept ∙ zeros-drop count (replicate n 0) (replicate-zeros n)
-
-  pub fields-found : {next : ℕ} → r ≡ place.At next → some (record { value = take count left; rest = drop next text }) ≡ read_fields count (drop from text)
-  fields-found e = ap (fields_in text (take count left)) (sym e) ∙ found.found_is
-
-  pub fields-lost : r ≡ place.Bad → none ≡ read_fields count (drop from text)
-  fields-lost e = ap (fields_in text (take count left)) (sym e) ∙ found.found_is
-
-  fields_within : {next : ℕ} → r ≡ place.At next → next ≤ length text
-  fields_within e = subst (PlaceWithin text) e found.within
-
-  word : (j : ℕ) → get_or (take count left) j 0 ≡ get_or left j 0
-  word j = get_or_front count left j others-zero
-
-  -- The step that a line's numbers make, if they make one; f is what makes it.
-  line-found : (f : List ℕ → Step) {next : ℕ} → r ≡ place.At next
-      → some (record { value = f (take count left); rest = drop next text }) ≡ chain (read_fields count (drop from text)) (λ xs rest. some (record { value = f xs; rest = rest }))
-  unfolding chain
-  line-found f e = ap (λ o. chain o (λ xs rest. some (record { value = f xs; rest = rest }))) (fields-found e)
-
-  line-lost : (f : List ℕ → Step) → r ≡ place.Bad → none ≡ chain (read_fields count (drop from text)) (λ xs rest. some (record { value = f xs; rest = rest }))
-  unfolding chain
-  line-lost f e = ap (λ o. chain o (λ xs rest. some (record { value = f xs; rest = rest }))) (fields-lost e)
-
-  -- A step's arguments.
-  pub arguments-found : (kind : ℕ) → count ≡ count_of kind → {next : ℕ} → r ≡ place.At next
-      → LinePromise text (read_arguments kind (drop from text)) (line.Good kind (get_or left 0 0) (get_or left 1 0) (get_or left 2 0) (get_or left 3 0) next)
-  unfolding read_arguments step_with
-  arguments-found kind k {next} e =
-      record {
-        found_is =
-            (λ i. some (record { value = record { kind = kind; a = sym (word 0) i; b = sym (word 1) i; c = sym (word 2) i; d = sym (word 3) i }; rest = drop next text }))
-            ∙ (line-found (step_with kind) e ∙ ap (λ m. chain (read_fields m (drop from text)) (λ xs rest. some (record { value = step_with kind xs; rest = rest }))) k);
-        within = fields_within e;
-      }
-
-  pub arguments-lost : (kind : ℕ) → count ≡ count_of kind → r ≡ place.Bad → LinePromise text (read_arguments kind (drop from text)) line.Bad
-  unfolding read_arguments
-  arguments-lost kind k e =
-      record {
-        found_is = line-lost (step_with kind) e ∙ ap (λ m. chain (read_fields m (drop from text)) (λ xs rest. some (record { value = step_with kind xs; rest = rest }))) k;
-        within = tt;
-      }
-
--- The sizes behind N: two numbers.
-module _ (text : List ℕ) (from n : ℕ) (left : List ℕ) {r : Place} (found : FieldsPromise text from 2 (replicate 2 0) r left) where
-  third : get_or (take 2 left) 2 0 ≡ 0
-  third = word text from 2 2 left found 2 ∙ (sym (get_or-drop 2 left 0 0) ∙ zeros-get_or (drop 2 left) 0 (others-zero text from 2 2 left found))
-
-  pub sizes-found : {next : ℕ} → r ≡ place.At next → LinePromise text (read_sizes_behind n (drop from text)) (line.Good 0 n (get_or left 0 0) (get_or left 1 0) 0 next)
-  unfolding read_sizes_behind step_with
-  sizes-found {next} e =
-      record {
-        found_is =
-            (λ i. some (record { value = record { kind = 0; a = n; b = sym (word text from 2 2 left found 0) i; c = sym (word text from 2 2 left found 1) i; d = sym third i }; rest = drop next text }))
-            ∙ line-found text from 2 2 left found (λ xs. step_with 0 (n ∷ xs)) e;
-        within = fields_within text from 2 2 left found e;
-      }
-
-  pub sizes-lost : r ≡ place.Bad → LinePromise text (read_sizes_behind n (drop from text)) line.Bad
-  unfolding read_sizes_behind
-  sizes-lost e = record { found_is = line-lost text from 2 2 left found (λ xs. step_with 0 (n ∷ xs)) e; within = tt }
-
--- ---- from a line's first byte or number to the line
-
-module _ (text : List ℕ) {r : Number} (found : NumberPromise text (read_number text) r) where
-  pub sizes-behind : {n next : ℕ} → r ≡ number.Good n next → read_sizes_behind n (drop next text) ≡ read_sizes text
+module _ (bs : List ℕ) where
+  pub sizes-none : None ≡ read_number bs → None ≡ line_words (read_sizes bs)
   unfolding read_sizes chain
-  sizes-behind e = ap (λ o. chain o read_sizes_behind) (ap (number_in text) (sym e) ∙ found.found_is)
+  sizes-none e = rw (← e)
 
-  pub sizes-none : r ≡ number.Bad → none ≡ read_sizes text
-  unfolding read_sizes chain
-  sizes-none e = ap (λ o. chain o read_sizes_behind) (ap (number_in text) (sym e) ∙ found.found_is)
+  module _ {n : ℕ} {rest : List ℕ} (first : Some (record { value = n; rest = rest }) ≡ read_number bs) where
+    pub sizes-unended : None ≡ read_fields 2 rest → None ≡ line_words (read_sizes bs)
+    unfolding read_sizes read_sizes_behind chain
+    sizes-unended e = rw (← first, ← e)
+
+    pub sizes-found : (ws : List ℕ) {behind : List ℕ} → length ws ≡ 2 → Some (record { value = ws; rest = behind }) ≡ read_fields 2 rest
+        → Some (record { value = 0 ∷ n ∷ (ws ++ (0 ∷ [])); rest = behind }) ≡ line_words (read_sizes bs)
+    unfolding read_sizes read_sizes_behind chain step_with
+    sizes-found [] two e = absurd (omega arith)
+    sizes-found (l ∷ []) two e = absurd (omega arith)
+    sizes-found (l ∷ p ∷ w ∷ ws) two e = absurd (omega arith)
+    sizes-found (l ∷ p ∷ []) two e = rw (← first, ← e)
+
+-- ---- a step
+
+-- Four words that no number has been put in.
+abbrev pub blank : List ℕ
+blank = 0 ∷ 0 ∷ 0 ∷ 0 ∷ []
+
+-- At most four words, and 0 for those that are not there.
+padded : (ws : List ℕ) → length ws ≤ 4 → ws ++ drop (length ws) blank ≡ get_or ws 0 0 ∷ get_or ws 1 0 ∷ get_or ws 2 0 ∷ get_or ws 3 0 ∷ []
+padded [] h = refl
+padded (a ∷ []) h = refl
+padded (a ∷ b ∷ []) h = refl
+padded (a ∷ b ∷ c ∷ []) h = refl
+padded (a ∷ b ∷ c ∷ d ∷ []) h = refl
+padded (a ∷ b ∷ c ∷ d ∷ e ∷ ws) h = absurd (omega arith)
+
+a_kind : (kind : Kind) → eqb (number_of kind) 0 ≡ false
+a_kind Open = refl
+a_kind Close = refl
+a_kind Read = refl
+a_kind Write = refl
+a_kind Exchange = refl
+
+module _ (bs : List ℕ) where
+  pub step-none : length bs ≡ 0 → None ≡ line_words (read_step bs)
+  unfolding read_step
+  step-none h = go bs h
+    where
+      go : (bs : List ℕ) → length bs ≡ 0 → None ≡ line_words (read_step bs)
+      go [] h = refl
+      go (b ∷ bs) h = absurd (omega arith)
+
+  module _ {letter : ℕ} {rest : List ℕ} (is : bs ≡ letter ∷ rest) where
+    pub step-unknown : 0 ≡ kind_of letter → None ≡ line_words (read_step bs)
+    unfolding read_step
+    step-unknown e = rw (is, ← e)
+
+    module _ (kind : Kind) (e : number_of kind ≡ kind_of letter) {count : ℕ} (many : (count ≡ count_of (number_of kind)) × (count ≤ 4)) where
+      room : length (take (1 + count - 1) blank) ≡ count_of (number_of kind)
+      room =
+          let all : 1 + count - 1 ≡ count = omega arith in
+          ap (λ n. length (take n blank)) all ∙ (length-take-le count blank many.1 ∙ many.0)
+
+      pub step-unended : None ≡ read_fields (length (take (1 + count - 1) blank)) rest → None ≡ line_words (read_step bs)
+      unfolding read_step read_arguments chain
+      step-unended none = rw (is, ← e, a_kind kind, ← room, ← none)
+
+      pub step-found : (ws : List ℕ) {behind : List ℕ} → length ws ≡ length (take (1 + count - 1) blank)
+          → Some (record { value = ws; rest = behind }) ≡ read_fields (length (take (1 + count - 1) blank)) rest
+          → Some (record { value = number_of kind ∷ (ws ++ drop (1 + count - 1) blank); rest = behind }) ≡ line_words (read_step bs)
+      unfolding read_step read_arguments chain step_with
+      step-found ws long found =
+          let all : 1 + count - 1 ≡ count = omega arith in
+          let some : length ws ≡ count = omega (arith, room, many.0) in
+          rw (is, ← e, a_kind kind, ← room, ← found, all, ← some, padded ws (omega (arith, many.1)))
+
+-- ---- a line
 
 module _ (text : List ℕ) (at : ℕ) where
-  pub step-nothing : length text ≤ at → none ≡ read_step (drop at text)
-  unfolding read_step
-  step-nothing h = sym (ap read_step (nothing-there text at h))
-
-  module _ (h : at < length text) {kind : ℕ} (is : kind ≡ kind_of (get_or text at 0)) where
-    pub step-unknown : kind ≡ 0 → none ≡ read_step (drop at text)
-    unfolding read_step
-    step-unknown e = sym (ap read_step (byte-there text at h) ∙ cond-true (eqb (kind_of (get_or text at 0)) 0) _ _ (eq-eqb (kind_of (get_or text at 0)) 0 (sym is ∙ e)))
-
-    pub step-known : (kind ≡ 0 → ⊥) → read_arguments kind (drop (at + 1) text) ≡ read_step (drop at text)
-    unfolding read_step
-    step-known ne =
-        ap (λ k. read_arguments k (drop (at + 1) text)) is
-        ∙ sym (ap read_step (byte-there text at h) ∙ cond-false (eqb (kind_of (get_or text at 0)) 0) _ _ (ne_eqb (kind_of (get_or text at 0)) 0 (λ e. ne (is ∙ e))))
-
-  pub line_first : at ≡ 0 → read_sizes text ≡ read_line text at
+  pub line_first : at ≡ 0 → line_words (read_sizes text) ≡ line_words (read_line text at)
   unfolding read_line
-  line_first e = sym (cond-true (eqb at 0) _ _ (eq-eqb at 0 e))
+  line_first e = rw (eq-eqb at 0 e)
 
-  pub line-later : (at ≡ 0 → ⊥) → read_step (drop at text) ≡ read_line text at
+  pub line-later : (at ≡ 0 → ⊥) → read_line text at ≡ read_step (drop at text)
   unfolding read_line
-  line-later ne = sym (cond-false (eqb at 0) _ _ (ne_eqb at 0 ne))
+  line-later ne = cond-false (eqb at 0) _ _ (ne_eqb at 0 ne)
 
--- ---- the promise settles the line
+  pub line-none : (at ≡ 0 → ⊥) → length text < at → None ≡ line_words (read_line text at)
+  line-none ne past = rw (line-later ne, drop_of_length-le text {i = at} (omega arith)) (step-none [] refl)
 
-same_line : (text : List ℕ) (r s : Line) → line_in text r ≡ line_in text s → LineWithin text r → LineWithin text s → r ≡ s
-same_line text (line.Good kind a b c d next) (line.Good kind' a' b' c' d' next') e w w' =
-    let g = some-injective _ _ e in
-    let x : ℕ → ℕ → ℕ → ℕ → ℕ → ℕ → Line = λ k p q r s n. line.Good k p q r s n in
-    let left : next ≡ next' = omega (arith, ap (λ o. length o.rest) g, length-drop next text, length-drop next' text) in
-    λ i. x (g i).value.kind (g i).value.a (g i).value.b (g i).value.c (g i).value.d (left i)
-same_line text (line.Good kind a b c d next) line.Bad e w w' = absurd (none-ne-some _ (sym e))
-same_line text line.Bad (line.Good kind a b c d next) e w w' = absurd (none-ne-some _ e)
-same_line text line.Bad line.Bad e w w' = refl
+  pub line-some : (at ≡ 0 → ⊥) → {part : List ℕ} → part ≡ slice_range text at (length text) → line_words (read_step part) ≡ line_words (read_line text at)
+  line-some ne is = ap (λ bs. line_words (read_step bs)) (is ∙ take_all (length text - at) (drop at text) (omega (arith, length-drop at text))) ∙ ap line_words (sym (line-later ne))
 
-pub line-settled : (text : List ℕ) {found : Option (Got Step)} (r s : Line) → LinePromise text found r → LinePromise text found s → r ≡ s
-line-settled text r s p q = same_line text r s (p.found_is ∙ sym q.found_is) p.within q.within
+-- What is read of a line is the text from a place on, up to some rest.
+record Ahead (text : List ℕ) (rest : List ℕ) : Type 0 where
+  place : ℕ
+  line : List ℕ
+  is : drop place text ≡ line ++ rest
 
--- So the promise of a reader's step settles the line and the reader.
-pub next-settled : (before : Reader) {l l' : Line} {after after' : Reader} → NextPromise before l after → NextPromise before l' after' → (l ≡ l') × (after ≡ after')
-next-settled before {l} {l'} {after} p q =
-    let e = line-settled before.text.now l l' p.line_is q.line_is in
-    let same : NextPromise before l' after = subst (λ (x : Line). NextPromise before x after) e p in
-    (e, same.moved_is ∙ sym q.moved_is)
+ahead : (text : List ℕ) (at : ℕ) (g : Got Step) → read_line text at ≡ Some g → Ahead text g.rest
+unfolding read_line
+ahead text at g =
+    cond-elim (λ (o : Option (Got Step)). o ≡ Some g → Ahead text g.rest) (eqb at 0)
+    (λ start h. record { place = 0; line = _; is = read-sizes text g h })
+    (λ later h. let said = read-step (drop at text) g h in record { place = at; line = said.line; is = said.is })
+
+module _ (text : List ℕ) {rest : List ℕ} (so : Ahead text rest) where
+  parts : text ≡ (take so.place text ++ so.line) ++ rest
+  parts = sym (take-append-drop so.place text) ∙ (ap (λ bs. take so.place text ++ bs) so.is ∙ sym (append_assoc (take so.place text) so.line rest))
+
+  many : length text ≡ length (take so.place text ++ so.line) + length rest
+  many = ap length parts ∙ length-append (take so.place text ++ so.line) rest
+
+  ahead-behind : drop (length text - length rest) text ≡ rest
+  ahead-behind =
+      let front : length (take so.place text ++ so.line) ≡ length text - length rest = omega (arith, many) in
+      ap (drop (length text - length rest)) parts ∙ drop_at (take so.place text ++ so.line) rest (length text - length rest) front
+
+-- Behind a line the text goes on at the place that is as far from its end as there is text left.
+pub line-behind : (text : List ℕ) (at : ℕ) (g : Got Step) → read_line text at ≡ Some g → drop (length text - length g.rest) text ≡ g.rest
+line-behind text at g e = ahead-behind text (ahead text at g e)
+
+pub line-shorter : (text : List ℕ) (at : ℕ) {ws rest : List ℕ} → Some (record { value = ws; rest = rest }) ≡ line_words (read_line text at) → length rest ≤ length text
+line-shorter text at {ws} {rest} = go (read_line text at) refl
+  where
+    go : (o : Option (Got Step)) → read_line text at ≡ o → Some (record { value = ws; rest = rest }) ≡ line_words o → length rest ≤ length text
+    go None is e = none-some (sym e)
+    go (Some g) is e = omega (arith, many text (ahead text at g is), ap length (ap (λ r. r.rest) (same_Some _ _ e)))
+
+-- The promise of what reads a line settles it and the text behind it,
+pub line-settled : (found : Option (Got Step)) (r s : Option (List ℕ × Bor (List ℕ))) → got r ≡ line_words found → got s ≡ line_words found → Same r s
+line-settled found r s p q = go r s (p ∙ sym q)
+  where
+    go : (r s : Option (List ℕ × Bor (List ℕ))) → got r ≡ got s → Same r s
+    go None None e = tt
+    go None (Some s) e = none-some e
+    go (Some r) None e = none-some (sym e)
+    go (Some r) (Some s) e = let g = same_Some _ _ e in (ap (λ x. x.value) g, ap (λ x. x.rest) g)
+
+-- and that of a reader's step the line and the reader.
+pub next-settled : (before : Reader) {l l' : Option (List ℕ)} {after after' : Reader} → NextPromise before l after → NextPromise before l' after' → (l ≡ l') × (after ≡ after')
+next-settled before p q = (p.line_is ∙ sym q.line_is, p.moved_is ∙ sym q.moved_is)
+
+-- What it says of a good line, and of a bad one.
+pub record Went (before : Reader) (ws : List ℕ) (after : Reader) : Type 0 where
+  pub line : Got Step
+  pub is : read_line before.text.now before.at ≡ Some line
+  pub words_are : ws ≡ words_of line.value
+  pub text_is : after.text ≡ before.text
+  pub rest_is : drop after.at before.text.now ≡ line.rest
+
+pub next-good : (before : Reader) {l : Option (List ℕ)} {ws : List ℕ} (after : Reader) → NextPromise before l after → l ≡ Some ws → Went before ws after
+next-good before {ws = ws} after p some = go (read_line before.text.now before.at) refl (sym some ∙ p.line_is) p.moved_is
+  where
+    go : (o : Option (Got Step)) → read_line before.text.now before.at ≡ o → Some ws ≡ words_read o → after ≡ moved_behind o before → Went before ws after
+    go None is l m = none-some (sym l)
+    go (Some g) is l m =
+        record {
+          line = g;
+          is = is;
+          words_are = same_Some _ _ l;
+          text_is = ap (λ r. r.text) m;
+          rest_is = ap (λ r. drop r.at before.text.now) m ∙ line-behind before.text.now before.at g is;
+        }
+
+pub next-bad : (before : Reader) {l : Option (List ℕ)} (after : Reader) → NextPromise before l after → l ≡ None → read_line before.text.now before.at ≡ None
+next-bad before after p none = go (read_line before.text.now before.at) (sym none ∙ p.line_is)
+  where
+    go : (o : Option (Got Step)) → None ≡ words_read o → o ≡ None
+    go None l = refl
+    go (Some g) l = none-some l

@@ -1,7 +1,6 @@
 -- Reading a line finds exactly the lines' spellings. Assumes nothing.
-use Rattle.std.specs.Prelude.{ℕ, zero, suc, ◌<◌, ◌≤◌, List, [], ◌∷◌, ◌++◌, true, cond, ◌≡◌, refl, eqb, length, drop}
+use Rattle.std.specs.Prelude.{ℕ, zero, suc, ◌<◌, ◌≤◌, List, [], ◌∷◌, ◌++◌, true, cond, ◌≡◌, refl, eqb, length, drop, Option, None, Some}
 use Rattle.std.proofs.Common.{append_assoc, sym, ◌∙◌, ap, subst, arith, eqb-true, length-append}
-use Rattle.std.proofs.Math.Option.{Option, none, some}
 use Rattle.words.specs.TestLaws.{cond-elim}
 use Rattle.tables.specs.Size.{Size}
 use Rattle.rules.specs.Step.{Step}
@@ -22,7 +21,7 @@ fields-no-digit [] rest = other refl
 fields-no-digit (x ∷ xs) rest = other refl
 
 -- The spelling of so many numbers is read.
-pub fields_read : {k : ℕ} {xs : List ℕ} → AllFit k xs → (rest : List ℕ) → read_fields k (fields xs ++ rest) ≡ some (record { value = xs; rest = rest })
+pub fields_read : {k : ℕ} {xs : List ℕ} → AllFit k xs → (rest : List ℕ) → read_fields k (fields xs ++ rest) ≡ Some (record { value = xs; rest = rest })
 unfolding fields read_fields begins read_field chain prepend
 fields_read fit_none rest = refl
 fields_read (fit_more {k = k} {x = x} {xs = xs} h hs) rest =
@@ -30,20 +29,20 @@ fields_read (fit_more {k = k} {x = x} {xs = xs} h hs) rest =
     ∙ (ap (λ o. chain o (λ y behind. prepend y (read_fields k behind))) (number_read x h (fields-no-digit xs rest))
     ∙ ap (prepend x) (fields_read hs rest))
 
-read-field : (bs : List ℕ) (g : Got ℕ) → read_field bs ≡ some g → FieldSaid bs g
+read-field : (bs : List ℕ) (g : Got ℕ) → read_field bs ≡ Some g → FieldSaid bs g
 unfolding read_field
 read-field bs g =
-    cond-elim (λ (o : Option (Got ℕ)). o ≡ some g → FieldSaid bs g) (begins 32 bs)
+    cond-elim (λ (o : Option (Got ℕ)). o ≡ Some g → FieldSaid bs g) (begins 32 bs)
     (λ space h.
     let so = read-number (drop 1 bs) g h in
     (begins-is 32 bs space ∙ ap (λ t. 32 ∷ t) so.0, so.1))
     (λ nothing. none-some)
 
 -- A field more, before the others.
-prepend-chain : (x : ℕ) (o : Option (Got (List ℕ))) → prepend x o ≡ chain o (λ xs rest. some (record { value = x ∷ xs; rest = rest }))
+prepend-chain : (x : ℕ) (o : Option (Got (List ℕ))) → prepend x o ≡ chain o (λ xs rest. Some (record { value = x ∷ xs; rest = rest }))
 unfolding prepend chain
-prepend-chain x none = refl
-prepend-chain x (some g) = refl
+prepend-chain x None = refl
+prepend-chain x (Some g) = refl
 
 fields-said : {k : ℕ} {bs : List ℕ} (g : Got ℕ) (os : Got (List ℕ)) → FieldSaid bs g → FieldsSaid k g.rest os
     → FieldsSaid (suc k) bs (record { value = g.value ∷ os.value; rest = os.rest })
@@ -54,10 +53,10 @@ fields-said g os one others = (
 )
 
 -- What is read as so many numbers is their spelling.
-pub read-fields : (k : ℕ) (bs : List ℕ) (g : Got (List ℕ)) → read_fields k bs ≡ some g → (bs ≡ fields g.value ++ g.rest) × AllFit k g.value
+pub read-fields : (k : ℕ) (bs : List ℕ) (g : Got (List ℕ)) → read_fields k bs ≡ Some g → (bs ≡ fields g.value ++ g.rest) × AllFit k g.value
 unfolding read_fields fields
 read-fields zero bs g =
-    cond-elim (λ (o : Option (Got (List ℕ))). o ≡ some g → FieldsSaid zero bs g) (begins 10 bs)
+    cond-elim (λ (o : Option (Got (List ℕ))). o ≡ Some g → FieldsSaid zero bs g) (begins 10 bs)
     (λ feed. some_is (FieldsSaid zero bs) (begins-is 10 bs feed, fit_none)) (λ nothing. none-some)
 read-fields (suc k) bs g = λ h.
     let c = chained (read_field bs) _ g h in
@@ -104,7 +103,7 @@ kind_of-elim P o c r w x neither b =
 
 -- What is read as a step is the spelling of one.
 arguments-said : (kind : ℕ) {letter : ℕ} → ((xs : List ℕ) → AllFit (count_of kind) xs → StepLine (step_with kind xs) (letter ∷ fields xs)) → (bs : List ℕ) (g : Got Step)
-    → read_arguments kind bs ≡ some g → StepSaid (letter ∷ bs) g.value g.rest
+    → read_arguments kind bs ≡ Some g → StepSaid (letter ∷ bs) g.value g.rest
 unfolding read_arguments
 arguments-said kind {letter} spelling bs g h =
     let c = chained (read_fields (count_of kind) bs) _ g h in
@@ -112,20 +111,20 @@ arguments-said kind {letter} spelling bs g h =
     some_is (λ (r : Got Step). StepSaid (letter ∷ bs) r.value r.rest)
     (record { line = letter ∷ fields c.found.value; spells = spelling c.found.value so.1; is = ap (λ t. letter ∷ t) so.0 }) c.next_is
 
-pub read-step : (bs : List ℕ) (g : Got Step) → read_step bs ≡ some g → StepSaid bs g.value g.rest
+pub read-step : (bs : List ℕ) (g : Got Step) → read_step bs ≡ Some g → StepSaid bs g.value g.rest
 unfolding read_step count_of
 read-step [] g = none-some
 read-step (b ∷ bs) g =
-    kind_of-elim (λ letter kind. cond (eqb kind 0) none (read_arguments kind bs) ≡ some g → StepSaid (letter ∷ bs) g.value g.rest)
+    kind_of-elim (λ letter kind. cond (eqb kind 0) None (read_arguments kind bs) ≡ Some g → StepSaid (letter ∷ bs) g.value g.rest)
     (arguments-said 1 opens-fit bs g) (arguments-said 2 closes-fit bs g) (arguments-said 3 reads_fit bs g) (arguments-said 4 writes-fit bs g)
     (arguments-said 5 exchanges-fit bs g) (λ letter. none-some) b
 
 -- The spelling of a step is read.
-arguments-read : (kind : ℕ) {xs : List ℕ} → AllFit (count_of kind) xs → (rest : List ℕ) → read_arguments kind (fields xs ++ rest) ≡ some (record { value = step_with kind xs; rest = rest })
+arguments-read : (kind : ℕ) {xs : List ℕ} → AllFit (count_of kind) xs → (rest : List ℕ) → read_arguments kind (fields xs ++ rest) ≡ Some (record { value = step_with kind xs; rest = rest })
 unfolding read_arguments chain
-arguments-read kind fit rest = ap (λ o. chain o (λ xs behind. some (record { value = step_with kind xs; rest = behind }))) (fields_read fit rest)
+arguments-read kind fit rest = ap (λ o. chain o (λ xs behind. Some (record { value = step_with kind xs; rest = behind }))) (fields_read fit rest)
 
-pub step-read : {x : Step} {line : List ℕ} → StepLine x line → (rest : List ℕ) → read_step (line ++ rest) ≡ some (record { value = x; rest = rest })
+pub step-read : {x : Step} {line : List ℕ} → StepLine x line → (rest : List ℕ) → read_step (line ++ rest) ≡ Some (record { value = x; rest = rest })
 unfolding read_step kind_of count_of step_with
 step-read (opens s g h i) rest = arguments-read 1 (fit_more h (fit_more i fit_none)) rest
 step-read (closes s h) rest = arguments-read 2 (fit_more h fit_none) rest
@@ -140,7 +139,7 @@ sizes-fit : (n : ℕ) {xs : List ℕ} → AllFit 2 xs → size_line (record { n 
 unfolding step_with size_line numbers
 sizes-fit n (fit_more h (fit_more i fit_none)) = refl
 
-pub read-sizes : (bs : List ℕ) (g : Got Step) → read_sizes bs ≡ some g → bs ≡ size_line (record { n = g.value.a; l = g.value.b; p = g.value.c }) ++ g.rest
+pub read-sizes : (bs : List ℕ) (g : Got Step) → read_sizes bs ≡ Some g → bs ≡ size_line (record { n = g.value.a; l = g.value.b; p = g.value.c }) ++ g.rest
 unfolding read_sizes read_sizes_behind
 read-sizes bs g h =
     let c = chained (read_number bs) read_sizes_behind g h in
@@ -154,13 +153,13 @@ read-sizes bs g h =
 
 -- The spelling of sizes is read.
 pub sizes-read : (z : Size) → Fits z.n → Fits z.l → Fits z.p → (rest : List ℕ)
-    → read_sizes (size_line z ++ rest) ≡ some (record { value = record { kind = 0; a = z.n; b = z.l; c = z.p; d = 0 }; rest = rest })
+    → read_sizes (size_line z ++ rest) ≡ Some (record { value = record { kind = 0; a = z.n; b = z.l; c = z.p; d = 0 }; rest = rest })
 unfolding read_sizes read_sizes_behind size_line numbers chain step_with
 sizes-read z h i j rest =
     let xs = z.l ∷ z.p ∷ [] in
     ap (λ t. chain (read_number t) read_sizes_behind) (append_assoc (decimal z.n) (fields xs) rest)
     ∙ (ap (λ o. chain o read_sizes_behind) (number_read z.n h (fields-no-digit xs rest))
-    ∙ ap (λ o. chain o (λ ys behind. some (record { value = step_with 0 (z.n ∷ ys); rest = behind }))) (fields_read (fit_more i (fit_more j fit_none)) rest))
+    ∙ ap (λ o. chain o (λ ys behind. Some (record { value = step_with 0 (z.n ∷ ys); rest = behind }))) (fields_read (fit_more i (fit_more j fit_none)) rest))
 
 -- ---- behind a line there is less text
 
@@ -181,12 +180,12 @@ line-long (exchanges s a b h i j) = omega arith
 shorter : {bs : List ℕ} (line rest : List ℕ) → bs ≡ line ++ rest → 1 ≤ length line → length rest < length bs
 shorter line rest e l = omega (arith, length-append line rest, ap length e)
 
-pub read-step-shorter : (bs : List ℕ) (g : Got Step) → read_step bs ≡ some g → length g.rest < length bs
+pub read-step-shorter : (bs : List ℕ) (g : Got Step) → read_step bs ≡ Some g → length g.rest < length bs
 read-step-shorter bs g h =
     let so = read-step bs g h in
     shorter so.line g.rest so.is (line-long so.spells)
 
-pub read-sizes-shorter : (bs : List ℕ) (g : Got Step) → read_sizes bs ≡ some g → length g.rest < length bs
+pub read-sizes-shorter : (bs : List ℕ) (g : Got Step) → read_sizes bs ≡ Some g → length g.rest < length bs
 unfolding size_line numbers
 read-sizes-shorter bs g h =
     let others = g.value.b ∷ g.value.c ∷ [] in

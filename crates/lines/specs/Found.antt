@@ -1,75 +1,56 @@
--- What the code's functions on a text and a place promise: what is read there, and where the text goes on. Assumes nothing.
-use Rattle.std.specs.Prelude.{ℕ, ◌≤◌, List, ◌≡◌, length, take, drop}
-use Rattle.std.proofs.Math.Option.{Option, none, some}
+-- What the code's functions on a text promise: what is read there, and the text behind it. Assumes nothing.
+use Rattle.std.specs.Prelude.{ℕ, ◌-◌, List, [], ◌∷◌, ◌≡◌, length, Option, Some, None}
 use Rattle.std.specs.Borrow.{Bor}
 use Rattle.rules.specs.Step.{Step}
-use Rattle.lines.specs.Read.{Got, read_fields, read_line}
-use Rattle.lines.specs.declared.Number.{Number}
-use Rattle.lines.specs.declared.Number.TheVariants as number
-use Rattle.lines.specs.declared.Place.{Place}
-use Rattle.lines.specs.declared.Place.TheVariants as place
-use Rattle.lines.specs.declared.Line.{Line}
-use Rattle.lines.specs.declared.Line.TheVariants as line
+use Rattle.lines.specs.Read.{Got, read_line}
 use Rattle.lines.specs.declared.Reader.{Reader}
 
--- A number and the text behind it, or none.
-abbrev pub number_in : List ℕ → Number → Option (Got ℕ)
-number_in text (number.Good value next) = some (record { value = value; rest = drop next text })
-number_in text number.Bad = none
+-- What was read and the text behind it, or nothing.
+abbrev pub got : {A : Type 0} → Option (A × Bor (List ℕ)) → Option (Got A)
+got None = None
+got (Some r) = Some (record { value = r.0; rest = r.1.now })
 
-abbrev pub NumberWithin : List ℕ → Number → Type 0
-NumberWithin text (number.Good value next) = next ≤ length text
-NumberWithin text number.Bad = Unit {0}
+-- Two results are the same: both nothing, or the same was read and the same text is behind it.
+abbrev pub Same : Option (List ℕ × Bor (List ℕ)) → Option (List ℕ × Bor (List ℕ)) → Type 0
+Same None None = Unit {0}
+Same None (Some s) = ⊥
+Same (Some r) None = ⊥
+Same (Some r) (Some s) = (r.0 ≡ s.0) × (r.1.now ≡ s.1.now)
 
--- The promise of what reads a number.
-pub record NumberPromise (text : List ℕ) (found : Option (Got ℕ)) (r : Number) : Type 0 where
-  pub found_is : number_in text r ≡ found
-  pub within : NumberWithin text r
+-- The numbers that were put in words, and the text behind their line, or nothing.
+abbrev pub fields_got : List ℕ → Option (Bor (List ℕ)) → Option (Got (List ℕ))
+fields_got words None = None
+fields_got words (Some rest) = Some (record { value = words; rest = rest.now })
 
--- The numbers that were put in words and the text behind their line, or none.
-abbrev pub fields_in : List ℕ → List ℕ → Place → Option (Got (List ℕ))
-fields_in text words (place.At next) = some (record { value = words; rest = drop next text })
-fields_in text words place.Bad = none
+-- A step's five words. The first line's sizes are a step of kind 0.
+abbrev pub words_of : Step → List ℕ
+words_of x = x.kind ∷ x.a ∷ x.b ∷ x.c ∷ x.d ∷ []
 
-abbrev pub PlaceWithin : List ℕ → Place → Type 0
-PlaceWithin text (place.At next) = next ≤ length text
-PlaceWithin text place.Bad = Unit {0}
+-- What was read of a line, as words.
+abbrev pub line_words : Option (Got Step) → Option (Got (List ℕ))
+line_words None = None
+line_words (Some g) = Some (record { value = words_of g.value; rest = g.rest })
 
--- The promise of what reads so many numbers into words: those behind are as they were.
-pub record FieldsPromise (text : List ℕ) (at count : ℕ) (words : List ℕ) (r : Place) (left : List ℕ) : Type 0 where
-  pub found_is : fields_in text (take count left) r ≡ read_fields count (drop at text)
-  pub within : PlaceWithin text r
-  pub kept : drop count left ≡ drop count words
-
--- A line's step and the text behind it, or none. The first line's sizes are a step of kind 0.
-abbrev pub line_in : List ℕ → Line → Option (Got Step)
-line_in text (line.Good kind a b c d next) = some (record { value = record { kind = kind; a = a; b = b; c = c; d = d }; rest = drop next text })
-line_in text line.Bad = none
-
-abbrev pub LineWithin : List ℕ → Line → Type 0
-LineWithin text (line.Good kind a b c d next) = next ≤ length text
-LineWithin text line.Bad = Unit {0}
-
--- The promise of what reads a line.
-pub record LinePromise (text : List ℕ) (found : Option (Got Step)) (r : Line) : Type 0 where
-  pub found_is : line_in text r ≡ found
-  pub within : LineWithin text r
+-- The words alone.
+abbrev pub words_read : Option (Got Step) → Option (List ℕ)
+words_read None = None
+words_read (Some g) = Some (words_of g.value)
 
 -- The promise of what makes a reader: it holds the text and stands at the place.
 pub record NewPromise (text : Bor (List ℕ)) (at : ℕ) (r : Reader) : Type 0 where
   pub text_is : r.text ≡ text
   pub at_is : r.at ≡ at
 
--- Where a reader stands once it has read a line: behind it, or where it stood if the line is bad.
-abbrev pub place_behind : Line → ℕ → ℕ
-place_behind (line.Good kind a b c d next) at = next
-place_behind line.Bad at = at
+-- Where a reader stands once it has read a line of a text: behind it, or where it stood if the line is bad.
+abbrev pub place_behind : List ℕ → Option (Got Step) → ℕ → ℕ
+place_behind text None at = at
+place_behind text (Some g) at = length text - length g.rest
 
 -- The same text, at that place.
-abbrev pub moved_behind : Line → Reader → Reader
-moved_behind l r = record { text = r.text; at = place_behind l r.at }
+abbrev pub moved_behind : Option (Got Step) → Reader → Reader
+moved_behind found r = record { text = r.text; at = place_behind r.text.now found r.at }
 
 -- The promise of a reader's step: the line is the one where the reader stood, and the reader has moved behind it.
-pub record NextPromise (before : Reader) (l : Line) (after : Reader) : Type 0 where
-  pub line_is : LinePromise before.text.now (read_line before.text.now before.at) l
-  pub moved_is : after ≡ moved_behind l before
+pub record NextPromise (before : Reader) (l : Option (List ℕ)) (after : Reader) : Type 0 where
+  pub line_is : l ≡ words_read (read_line before.text.now before.at)
+  pub moved_is : after ≡ moved_behind (read_line before.text.now before.at) before

@@ -4,6 +4,7 @@ pub mod Read
 pub mod GotLaws
 pub mod DigitLaws
 pub mod ReadLaws
+pub mod Kinds
 pub mod Found
 pub mod FieldLaws
 pub mod FeedLaws

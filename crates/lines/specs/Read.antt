@@ -1,7 +1,6 @@
 -- Reading numbers and lines, byte by byte: what the code does. ReadLaws.antt says that this finds exactly the spellings of Line.antt.
 -- Assumes nothing.
-use Rattle.std.specs.Prelude.{ℕ, zero, suc, ◌+◌, ◌-◌, ◌*◌, Bool, false, cond, ◌&&◌, List, [], ◌∷◌, leb, eqb, get_or, drop}
-use Rattle.std.proofs.Math.Option.{Option, none, some}
+use Rattle.std.specs.Prelude.{ℕ, zero, suc, ◌+◌, ◌-◌, ◌*◌, Bool, false, cond, ◌&&◌, List, [], ◌∷◌, leb, eqb, get_or, drop, Option, None, Some}
 use Rattle.rules.specs.Step.{Step}
 use Rattle.lines.specs.Decimal.{greatest}
 
@@ -12,8 +11,8 @@ pub record Got (A : Type 0) : Type 0 where
 
 -- Goes on behind what was read.
 unfoldable pub chain : {A B : Type 0} → Option (Got A) → (A → List ℕ → Option (Got B)) → Option (Got B)
-chain none f = none
-chain (some g) f = f g.value g.rest
+chain None f = None
+chain (Some g) f = f g.value g.rest
 
 -- Does the text begin with this byte?
 unfoldable pub begins : ℕ → List ℕ → Bool
@@ -27,31 +26,31 @@ is_digit b = leb 48 b && leb b 57
 
 -- The digits behind those that say `sofar`.
 unfoldable pub more : ℕ → List ℕ → Option (Got ℕ)
-more sofar [] = some (record { value = sofar; rest = [] })
+more sofar [] = Some (record { value = sofar; rest = [] })
 more sofar (b ∷ bs) =
     cond
     (is_digit b)
-    (cond (leb (sofar * 10 + (b - 48)) greatest) (more (sofar * 10 + (b - 48)) bs) none)
-    (some (record { value = sofar; rest = b ∷ bs }))
+    (cond (leb (sofar * 10 + (b - 48)) greatest) (more (sofar * 10 + (b - 48)) bs) None)
+    (Some (record { value = sofar; rest = b ∷ bs }))
 
 -- A number. A leading 0 is all of it.
 unfoldable pub read_number : List ℕ → Option (Got ℕ)
-read_number [] = none
-read_number (b ∷ bs) = cond (is_digit b) (cond (eqb b 48) (some (record { value = 0; rest = bs })) (more (b - 48) bs)) none
+read_number [] = None
+read_number (b ∷ bs) = cond (is_digit b) (cond (eqb b 48) (Some (record { value = 0; rest = bs })) (more (b - 48) bs)) None
 
 -- A number behind a space.
 unfoldable pub read_field : List ℕ → Option (Got ℕ)
-read_field bs = cond (begins 32 bs) (read_number (drop 1 bs)) none
+read_field bs = cond (begins 32 bs) (read_number (drop 1 bs)) None
 
 -- ---- lines
 
 unfoldable pub prepend : ℕ → Option (Got (List ℕ)) → Option (Got (List ℕ))
-prepend x none = none
-prepend x (some g) = some (record { value = x ∷ g.value; rest = g.rest })
+prepend x None = None
+prepend x (Some g) = Some (record { value = x ∷ g.value; rest = g.rest })
 
 -- So many numbers, each behind a space, and a line feed.
 unfoldable pub read_fields : ℕ → List ℕ → Option (Got (List ℕ))
-read_fields zero bs = cond (begins 10 bs) (some (record { value = []; rest = drop 1 bs })) none
+read_fields zero bs = cond (begins 10 bs) (Some (record { value = []; rest = drop 1 bs })) None
 read_fields (suc k) bs = chain (read_field bs) (λ x rest. prepend x (read_fields k rest))
 
 -- The kind of step that a letter stands for, or 0; and how many numbers follow.
@@ -79,16 +78,16 @@ step_with kind xs = record { kind = kind; a = get_or xs 0 0; b = get_or xs 1 0; 
 
 -- A step of a kind, from behind its letter on.
 unfoldable pub read_arguments : ℕ → List ℕ → Option (Got Step)
-read_arguments kind bs = chain (read_fields (count_of kind) bs) (λ xs rest. some (record { value = step_with kind xs; rest = rest }))
+read_arguments kind bs = chain (read_fields (count_of kind) bs) (λ xs rest. Some (record { value = step_with kind xs; rest = rest }))
 
 -- A step's line.
 unfoldable pub read_step : List ℕ → Option (Got Step)
-read_step [] = none
-read_step (b ∷ bs) = cond (eqb (kind_of b) 0) none (read_arguments (kind_of b) bs)
+read_step [] = None
+read_step (b ∷ bs) = cond (eqb (kind_of b) 0) None (read_arguments (kind_of b) bs)
 
 -- The first line, as a step of kind 0 with N, L and P for its arguments: from behind N on, and the whole line.
 unfoldable pub read_sizes_behind : ℕ → List ℕ → Option (Got Step)
-read_sizes_behind n bs = chain (read_fields 2 bs) (λ xs rest. some (record { value = step_with 0 (n ∷ xs); rest = rest }))
+read_sizes_behind n bs = chain (read_fields 2 bs) (λ xs rest. Some (record { value = step_with 0 (n ∷ xs); rest = rest }))
 
 unfoldable pub read_sizes : List ℕ → Option (Got Step)
 read_sizes bs = chain (read_number bs) read_sizes_behind

@@ -3,35 +3,13 @@
 
 ghost use Rattle.lines.specs.Found.{NewPromise, NextPromise};
 
+mod kind;
 pub mod reading;
 
-// A number, and where the text goes on behind it.
-#[derive(Clone, Copy)]
-pub enum Number {
-    Good(u32, usize),
-    Bad,
-}
-
-// Where the text goes on behind a line.
-#[derive(Clone, Copy)]
-pub enum Place {
-    At(usize),
-    Bad,
-}
-
-// A step, and where the text goes on behind its line. The sizes N, L and P of a first line are a step of kind 0.
-#[derive(Clone, Copy)]
-pub enum Line {
-    Good {
-        kind: u32,
-        a: u32,
-        b: u32,
-        c: u32,
-        d: u32,
-        next: usize,
-    },
-    Bad,
-}
+// A line's five words, as a list of steps has them: the kind of a step and its four arguments. The sizes N, L and P of a first line are a
+// step of kind 0.
+// One type for both lines: `NextPromise` says of both the same five words.
+pub type Line = [u32; 5];
 
 // A text, and the place that has been reached in it.
 #[derive(Clone, Copy)]
@@ -40,19 +18,21 @@ pub struct Reader<'a> {
     pub at: usize,
 }
 
-// A reader at a place of a text.
-pub fn new<'a>(text: &'a [u8], at: usize) -> Reader<'a>
-    ensures { NewPromise text.entry at result }
-{
-    Reader { text, at }
-}
+impl<'a> Reader<'a> {
+    // A reader at a place of a text.
+    pub fn new(text: &'a [u8], at: usize) -> Self
+        ensures { NewPromise text.entry at result }
+    {
+        Reader { text, at }
+    }
 
-// The line where the reader stands. The reader moves on behind it; where the line is bad it stays.
-pub fn next<'s, 'a>(r: &'s mut Reader<'a>) -> Line
-    ensures { NextPromise r.old result r.new }
-{
-    let at = r.at;
-    let line = reading::line_at(r.text, at);
-    r.at = reading::place_behind(line, at);
-    line
+    // The line where the reader stands, if it is a good one. The reader moves on behind it; where the line is bad it stays.
+    // No `Iterator`: `None` is a bad line, and not the end.
+    pub fn next(&mut self) -> Option<Line>
+        ensures { NextPromise self.old result self.new }
+    {
+        let (line, rest) = reading::line_at(self.text, self.at)?;
+        self.at = self.text.len() - rest.len();
+        Some(line)
+    }
 }

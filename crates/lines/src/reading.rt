@@ -1,199 +1,99 @@
-// Reading a text from a place on. Any place will do: behind the end of the text there is nothing.
-ghost use Rattle.std.specs.Prelude.{◌≡◌, ◌≤◌, length, drop};
-ghost use Rattle.lines.specs.Read.{begins, is_digit, more, read_number, read_field, kind_of, count_of, read_step, read_sizes_behind, read_sizes, read_line};
-ghost use Rattle.lines.specs.Found.{NumberPromise, FieldsPromise, LinePromise, place_behind};
+// Reading what a text begins with. Each function answers what it has read, and the text behind it.
+ghost use Rattle.std.specs.Prelude.{◌≡◌, length, IfNone, IfSome};
+ghost use Rattle.lines.specs.DigitLaws.{NoDigit, DigitAhead};
+ghost use Rattle.lines.specs.Read.{more, read_number, read_field, read_fields, read_step, read_sizes, read_line};
+ghost use Rattle.lines.specs.Found.{got, fields_got, line_words};
 
-use crate::{Line, Number, Place};
+use crate::Line;
+use crate::kind::Kind;
 
-// Does this byte stand at the place?
-fn is_at(text: &[u8], at: usize, byte: u8) -> bool
-    ensures { result ≡ begins byte (drop at text.now) }
+// The digit that a text begins with.
+fn first_digit(text: &[u8]) -> Option<(u32, &[u8])>
+    ensures none { IfNone result (NoDigit text.now) }
+    ensures some { IfSome result (λ r. DigitAhead text.now r.0 r.1.now) }
 {
-    if at < text.len() {
-        return text[at] == byte;
-    }
-    false
-}
-
-fn is_digit(byte: u8) -> bool
-    ensures { result ≡ is_digit byte }
-{
-    if byte < b'0' {
-        return false;
-    }
-    byte <= b'9'
-}
-
-// A number whose first digits say `sofar`, and whose other digits stand from a place on.
-fn more_digits(text: &[u8], from: usize, sofar: u32) -> Number
-    requires { from ≤ length text.now }
-    ensures { NumberPromise text.now (more sofar (drop from text.now)) result }
-{
-    let mut at = from;
-    let mut value = sofar as u64;
-    while at < text.len() {
-        let byte = text[at];
-        if !is_digit(byte) {
-            return Number::Good(value as u32, at);
-        }
-        value = value * 10 + (byte - b'0') as u64;
-        if 4294967295 < value {
-            return Number::Bad;
-        }
-        at += 1;
-    }
-    Number::Good(value as u32, at)
-}
-
-// The number at a place. A leading 0 is all of it.
-fn number_at(text: &[u8], at: usize) -> Number
-    ensures { NumberPromise text.now (read_number (drop at text.now)) result }
-{
-    if text.len() <= at {
-        return Number::Bad;
-    }
-    let byte = text[at];
-    if !is_digit(byte) {
-        return Number::Bad;
-    }
-    if byte != b'0' {
-        return more_digits(text, at + 1, (byte - b'0') as u32);
-    }
-    Number::Good(0, at + 1)
-}
-
-// The number behind a space.
-fn field_at(text: &[u8], at: usize) -> Number
-    ensures { NumberPromise text.now (read_field (drop at text.now)) result }
-{
-    if is_at(text, at, b' ') {
-        return number_at(text, at + 1);
-    }
-    Number::Bad
-}
-
-// So many numbers, each behind a space, and a line feed. The numbers go to the front of words.
-fn fields_at(text: &[u8], from: usize, count: usize, words: &mut [u32]) -> Place
-    requires { count ≤ length words.old }
-    ensures { FieldsPromise text.now from count words.old result words.new }
-{
-    let mut i = 0;
-    let mut at = from;
-    while i < count {
-        match field_at(text, at) {
-            Number::Good(value, next) => {
-                words[i] = value;
-                at = next;
-                i += 1;
-            }
-            Number::Bad => {
-                return Place::Bad;
-            }
-        }
-    }
-    if is_at(text, at, b'\n') {
-        return Place::At(at + 1);
-    }
-    Place::Bad
-}
-
-// The kind of step that a letter stands for, or 0.
-fn kind_of(letter: u8) -> u32
-    ensures { result ≡ kind_of letter }
-{
-    match letter {
-        b'o' => 1,
-        b'c' => 2,
-        b'r' => 3,
-        b'w' => 4,
-        b'x' => 5,
-        _ => 0,
+    let (first, rest) = text.split_first()?;
+    if first.is_ascii_digit() {
+        Some((u32::from(*first - b'0'), rest))
+    } else {
+        None
     }
 }
 
-// How many numbers stand in the line of a step of this kind.
-fn count_of(kind: u32) -> usize
-    ensures { (result ≡ count_of kind) × (result ≤ 4) }
+// A number whose first digits say `sofar`, and whose other digits a text begins with.
+#[tactic(auto, using(crate::proofs::DigitLaws::digits))]
+fn more_digits(sofar: u32, text: &[u8]) -> Option<(u32, &[u8])>
+    ensures { got result ≡ more sofar text.now }
 {
-    match kind {
-        1 => 2,
-        2 => 1,
-        3 => 3,
-        4 => 4,
-        5 => 3,
-        _ => 0,
+    let mut value = sofar;
+    let mut rest = text;
+    while let Some((digit, behind)) = first_digit(rest) {
+        value = value.checked_mul(10)?.checked_add(digit)?;
+        rest = behind;
     }
+    Some((value, rest))
 }
 
-// The step at a place.
-fn step_at(text: &[u8], at: usize) -> Line
-    ensures { LinePromise text.now (read_step (drop at text.now)) result }
+// A number. A leading 0 is all of it.
+#[tactic(auto, using(crate::proofs::DigitLaws::digits))]
+fn number(text: &[u8]) -> Option<(u32, &[u8])>
+    ensures { got result ≡ read_number text.now }
 {
-    if text.len() <= at {
-        return Line::Bad;
+    let (digit, rest) = first_digit(text)?;
+    if digit == 0 {
+        return Some((0, rest));
     }
-    let kind = kind_of(text[at]);
-    if kind == 0 {
-        return Line::Bad;
-    }
-    let mut words = [0u32; 4];
-    match fields_at(text, at + 1, count_of(kind), &mut words) {
-        Place::At(next) => Line::Good {
-            kind,
-            a: words[0],
-            b: words[1],
-            c: words[2],
-            d: words[3],
-            next,
-        },
-        Place::Bad => Line::Bad,
-    }
+    more_digits(digit, rest)
 }
 
-// The sizes, from behind N on.
-fn sizes_behind(text: &[u8], n: u32, at: usize) -> Line
-    ensures { LinePromise text.now (read_sizes_behind n (drop at text.now)) result }
+// A number behind a space.
+fn field(text: &[u8]) -> Option<(u32, &[u8])>
+    ensures { got result ≡ read_field text.now }
 {
-    let mut words = [0u32; 2];
-    match fields_at(text, at, 2, &mut words) {
-        Place::At(next) => Line::Good {
-            kind: 0,
-            a: n,
-            b: words[0],
-            c: words[1],
-            d: 0,
-            next,
-        },
-        Place::Bad => Line::Bad,
-    }
+    number(text.strip_prefix(b" ")?)
 }
 
-// The sizes at the start of a text.
-fn sizes_at_start(text: &[u8]) -> Line
-    ensures { LinePromise text.now (read_sizes text.now) result }
+// Numbers for all these words, each behind a space, and a line feed. Answers the text behind them.
+fn fields<'a>(text: &'a [u8], words: &mut [u32]) -> Option<&'a [u8]>
+    ensures { fields_got words.new result ≡ read_fields (length words.old) text.now }
 {
-    match number_at(text, 0) {
-        Number::Good(n, next) => sizes_behind(text, n, next),
-        Number::Bad => Line::Bad,
+    let mut rest = text;
+    for word in words {
+        let (value, behind) = field(rest)?;
+        *word = value;
+        rest = behind;
     }
+    rest.strip_prefix(b"\n")
 }
 
-// The line at a place: at the start of a text the sizes, elsewhere a step.
-pub fn line_at(text: &[u8], at: usize) -> Line
-    ensures { LinePromise text.now (read_line text.now at) result }
+// A step.
+fn step(text: &[u8]) -> Option<(Line, &[u8])>
+    ensures { got result ≡ line_words (read_step text.now) }
+{
+    let (letter, rest) = text.split_first()?;
+    let kind = Kind::from_letter(*letter)?;
+    let mut words = [u32::from(kind), 0, 0, 0, 0];
+    let rest = fields(rest, &mut words[1..1 + kind.count()])?;
+    Some((words, rest))
+}
+
+// The sizes.
+fn sizes(text: &[u8]) -> Option<(Line, &[u8])>
+    ensures { got result ≡ line_words (read_sizes text.now) }
+{
+    let (n, rest) = number(text)?;
+    let mut words = [0, n, 0, 0, 0];
+    let rest = fields(rest, &mut words[2..4])?;
+    Some((words, rest))
+}
+
+// The line at a place: at the start of a text the sizes, elsewhere a step. Behind the end of the text there is none. A place says what the rest
+// of a text does not: whether it is the start.
+pub fn line_at(text: &[u8], at: usize) -> Option<(Line, &[u8])>
+    ensures { got result ≡ line_words (read_line text.now at) }
 {
     if at == 0 {
-        return sizes_at_start(text);
+        return sizes(text);
     }
-    step_at(text, at)
-}
-
-// Where the text goes on behind a line that was read at a place. Behind a bad one it does not.
-pub fn place_behind(line: Line, at: usize) -> usize
-    ensures { result ≡ place_behind line at }
-{
-    match line {
-        Line::Good { next, .. } => next,
-        Line::Bad => at,
-    }
+    step(text.get(at..)?)
 }

@@ -1,16 +1,17 @@
 -- What holds of a log's first places, of a place into which a write is put, and of a log that has grown. Assumes nothing.
 use Prim.Native.Nat.{ℕ, zero, suc, ◌+◌, ◌-◌, ◌*◌, ◌<◌, ◌≤◌}
-use Rattle.std.specs.Prelude.{true, ◌≡◌, length, take, drop}
+use Rattle.std.specs.Prelude.{true, ◌≡◌, length, take, drop, get_or, map, ◌/◌}
 use mathlib.Core.List.{List, [], ◌∷◌, ◌++◌}
 use Rattle.std.proofs.Math.Path.{refl, ap, ap₂}
 use Rattle.std.proofs.Common.{sym, ◌∙◌, subst, zero-add, suc-add, take-append-drop, drop-drop}
 use native.Mathlib.Omega.{arith}
-use Rattle.words.specs.Lists.{In, here}
-use Rattle.words.specs.ListLaws.{in_append_right}
 use Rattle.words.specs.SpliceLaws.{length-splice, take-splice, drop-splice, drop-splice-past, zeros-drop}
 use Rattle.words.specs.Tests.{zeros}
 use Rattle.logs.specs.Write.{Write}
-use Rattle.logs.specs.Places.{spelled, places, entry, entries}
+use Rattle.std.specs.Simd.{first_chunks}
+use Rattle.std.proofs.Math.Seq.{length-take-le, take-take, get_or_at}
+use Rattle.std.proofs.lemmas.List.{get_or-map}
+use Rattle.logs.specs.Places.{spelled, places, entry, entries, write_in}
 use Rattle.logs.proofs.PlacesLaws.{length-entries, length-places, entries-spelled, entries-places, zeros-places, spelled-entries, places-entries}
 use Rattle.logs.specs.EntryLaws.{put_at}
 
@@ -31,14 +32,6 @@ pub entries_next : (e : ℕ) (ws : List ℕ) → entries (e + 1) ws ≡ entries 
 unfolding entries
 entries_next e ws = entries-add e 1 ws
 
--- A place below the count holds one of the log's writes.
-pub in-entries : (e count : ℕ) (ws : List ℕ) → e < count → In (entry (drop (e * 4) ws)) (entries count ws)
-unfolding entries
-in-entries e count ws h =
-    let more : count ≡ e + suc (count - suc e) = omega arith in
-    subst (λ (g : List Write). In (entry (drop (e * 4) ws)) g) (sym (ap (λ n. entries n ws) more ∙ entries-add e (suc (count - suc e)) ws))
-    (in_append_right (entries e ws) (here refl))
-
 -- The writes that words spell, whatever stands behind them.
 pub entries-front : (e : ℕ) (g : List Write) (rest : List ℕ) → length g ≡ e → entries e (spelled g ++ rest) ≡ g
 entries-front e g rest h = ap (λ n. entries n (spelled g ++ rest)) (sym h) ∙ entries-spelled g rest
@@ -48,6 +41,42 @@ pub entries-same : (e : ℕ) (ws vs : List ℕ) → e * 4 ≤ length ws → take
 entries-same e ws vs h same =
     ap (entries e) (sym (take-append-drop (e * 4) vs) ∙ ap (λ (r : List ℕ). r ++ drop (e * 4) vs) (same ∙ sym (spelled-entries e ws h)))
     ∙ entries-front e (entries e ws) (drop (e * 4) vs) (length-entries e ws)
+
+-- ---- places lent one by one
+
+-- A place is its first four words.
+entry-take : (ws : List ℕ) → write_in (take 4 ws) ≡ entry ws
+unfolding entry
+entry-take [] = refl
+entry-take (a ∷ []) = refl
+entry-take (a ∷ b ∷ []) = refl
+entry-take (a ∷ b ∷ c ∷ []) = refl
+entry-take (a ∷ b ∷ c ∷ d ∷ ws) = refl
+
+-- Words by fours say what the places say.
+pub entries-chunks : (count : ℕ) (ws : List ℕ) → map write_in (first_chunks 4 count ws) ≡ entries count ws
+unfolding entries
+entries-chunks zero ws = refl
+entries-chunks (suc count) ws = ap₂ {C = List Write} (λ w g. w ∷ g) (entry-take ws) (entries-chunks count (drop 4 ws))
+
+-- The first words by fours, as many as fit.
+pub places-chunks : (count : ℕ) (ws : List ℕ) → count * 4 ≤ length ws
+    → map write_in (first_chunks 4 (length (take (count * 4) ws) / 4) (take (count * 4) ws)) ≡ entries count ws
+places-chunks count ws h =
+    let size : length (take (count * 4) ws) ≡ count * 4 = length-take-le (count * 4) ws h in
+    let many : length (take (count * 4) ws) / 4 ≡ count = omega (arith, size) in
+    ap (λ n. map write_in (first_chunks 4 n (take (count * 4) ws))) many
+    ∙ (entries-chunks count (take (count * 4) ws) ∙ entries-same count ws (take (count * 4) ws) h (take-take (count * 4) (count * 4) ws (omega arith)))
+
+-- One of the first n places.
+pub place-at : (e n : ℕ) (ws : List ℕ) (ps : List (List ℕ)) (d : List ℕ) → map write_in ps ≡ entries n ws → length ps ≡ n → e < n
+    → write_in (get_or ps e d) ≡ entry (drop (e * 4) ws)
+unfolding entries
+place-at e n ws ps d says many h =
+    let more : e + suc (n - suc e) ≡ n = omega arith in
+    sym (get_or-map write_in ps e d (write_in d) (omega (arith, many)))
+    ∙ (ap (λ (g : List Write). get_or g e (write_in d)) (says ∙ (ap (λ m. entries m ws) (sym more) ∙ entries-add e (suc (n - suc e)) ws))
+    ∙ get_or_at (entries e ws) (entry (drop (e * 4) ws)) (entries (n - suc e) (drop 4 (drop (e * 4) ws))) (write_in d) e (length-entries e ws))
 
 -- ---- a write put into place e
 

@@ -6,4 +6,5 @@ pub mod LogLaws
 pub mod LogTestLaws
 pub mod OrderedLaws
 pub mod PlacesLaws
+pub mod SaidLaws
 pub mod WriteLaws

@@ -19,6 +19,10 @@ places l log = spelled log ++ replicate ((l - length log) * width) 0
 unfoldable pub entry : List ℕ → Write
 entry ws = record { origin = get_or ws 0 0; clock = get_or ws 1 0; item = get_or ws 2 0; value = get_or ws 3 0 }
 
+-- What a place says, where a log's places are lent one by one.
+abbrev pub write_in : List ℕ → Write
+write_in words = entry words
+
 -- The first places of a log, as many as its count says.
 unfoldable pub entries : ℕ → List ℕ → List Write
 entries zero ws = []

@@ -1,15 +1,15 @@
-// One log in words: a lent slice of places of four words each, and the count of the places that hold a write.
+// One log in words: places of four words each, lent as `[u32; 4]` where it is read, and as words and a count where it is written.
 // A log's words are defined in specs/Places.antt, what a log is in specs/Write.antt and specs/Log.antt.
 #![tactic(auto)]
 
-ghost use Rattle.std.specs.Prelude.{◌≡◌, [], ◌∷◌, ◌+◌, ◌*◌, ◌≤◌, length, drop};
+ghost use Rattle.std.specs.Prelude.{◌≡◌, [], ◌∷◌, ◌+◌, ◌*◌, ◌≤◌, length, drop, map};
 ghost use Rattle.words.specs.Lists.{splice};
-ghost use Rattle.logs.specs.Write.{before, same};
-ghost use Rattle.logs.specs.Places.{spelled, entry};
+ghost use Rattle.logs.specs.Write.{before};
+ghost use Rattle.logs.specs.Places.{spelled, entry, entries, write_in};
 ghost use Rattle.logs.specs.Stored.{write_of};
 
 // One write, as it stands in a place.
-#[derive(Clone, Copy)]
+#[derive(Clone, Copy, PartialEq, Eq, Debug, Default)]
 pub struct Entry {
     pub origin: u32,
     pub clock: u32,
@@ -17,18 +17,53 @@ pub struct Entry {
     pub value: u32,
 }
 
+impl From<[u32; 4]> for Entry {
+    ghost from_gives = { λ words w. write_of w ≡ write_in words };
+
+    fn from(words: [u32; 4]) -> Self {
+        let [origin, clock, item, value] = words;
+        Entry {
+            origin,
+            clock,
+            item,
+            value,
+        }
+    }
+}
+
+impl From<Entry> for [u32; 4] {
+    ghost from_gives = { λ w words. words ≡ spelled (write_of w ∷ []) };
+
+    fn from(w: Entry) -> Self {
+        [w.origin, w.clock, w.item, w.value]
+    }
+}
+
+impl Entry {
+    // Does it come before the other in the write order?
+    // No `PartialOrd`: `==` compares item and value too, which the write order leaves out.
+    pub fn is_before(self, other: Entry) -> bool
+        ensures { result ≡ before (write_of self) (write_of other) }
+    {
+        (self.clock, self.origin) < (other.clock, other.origin)
+    }
+}
+
+// The first places of a log, as many as its count says.
+pub fn places(log: &[u32], count: usize) -> &[[u32; 4]]
+    requires { count * 4 ≤ length log.now }
+    ensures writes { map write_in result.now ≡ entries count log.now }
+    ensures many { length result.now ≡ count }
+{
+    log[..count * 4].as_chunks().0
+}
+
 // The write in place e.
 pub fn entry_at(log: &[u32], e: usize) -> Entry
     requires { e * 4 + 4 ≤ length log.now }
     ensures { write_of result ≡ entry (drop (e * 4) log.now) }
 {
-    let at = e * 4;
-    Entry {
-        origin: log[at],
-        clock: log[at + 1],
-        item: log[at + 2],
-        value: log[at + 3],
-    }
+    Entry::from(log.as_chunks::<4>().0[e])
 }
 
 // Puts a write into place e.
@@ -36,38 +71,5 @@ pub fn put(log: &mut [u32], e: usize, w: Entry)
     requires { e * 4 + 4 ≤ length log.old }
     ensures { log.new ≡ splice (e * 4) 4 log.old (spelled (write_of w ∷ [])) }
 {
-    let at = e * 4;
-    log[at] = w.origin;
-    log[at + 1] = w.clock;
-    log[at + 2] = w.item;
-    log[at + 3] = w.value;
-}
-
-// Does a come before b in the write order?
-pub fn before(a: Entry, b: Entry) -> bool
-    ensures { result ≡ before (write_of a) (write_of b) }
-{
-    if a.clock < b.clock {
-        return true;
-    }
-    if a.clock == b.clock {
-        return a.origin < b.origin;
-    }
-    false
-}
-
-// Are all four words the same?
-pub fn same(a: Entry, b: Entry) -> bool
-    ensures { result ≡ same (write_of a) (write_of b) }
-{
-    if a.origin != b.origin {
-        return false;
-    }
-    if a.clock != b.clock {
-        return false;
-    }
-    if a.item != b.item {
-        return false;
-    }
-    a.value == b.value
+    words::put(log, e, &w.into());
 }

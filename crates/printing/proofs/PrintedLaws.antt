@@ -1,13 +1,13 @@
 -- What holds of bytes put at a place: one piece behind another, numbers, and the lines of words. Assumes nothing.
-use Rattle.std.specs.Prelude.{ℕ, ◌+◌, ◌*◌, ◌≤◌, ◌<◌, ◌/◌, ◌%◌, List, [], ◌∷◌, ◌++◌, ◌≡◌, refl, length, get_or, set, take, drop}
-use Rattle.std.proofs.Common.{append-nil, append_assoc, sym, ◌∙◌, ap, ap₂, subst₂, add-zero, add-one, arith, length-append, take-append-drop, length-take-le, take-suc, take_all, take-add, take_at, drop_at, drop-drop}
-use Rattle.words.specs.Lists.{row, part, splice}
-use Rattle.words.specs.PartLaws.{row-part}
-use Rattle.words.specs.SpliceLaws.{sets-splice}
+use Rattle.std.specs.Prelude.{ℕ, zero, suc, ◌+◌, ◌≤◌, ◌<◌, ◌/◌, ◌%◌, List, [], ◌∷◌, ◌++◌, ◌≡◌, refl, length, get_or, take, drop}
+use Rattle.std.proofs.Common.{append-nil, append_assoc, sym, ◌∙◌, ap, ap₂, add-one, arith, length-append, take-append-drop, length-take-le, take_all, take_at, drop_at, drop-drop}
+use Rattle.std.specs.Simd.{first_chunks}
+use Rattle.words.specs.Lists.{splice}
 use Rattle.lines.specs.Decimal.{decimal}
 use Rattle.lines.proofs.DecimalLaws.{decimal-one, decimal-more, length-decimal}
 use Rattle.lines.specs.Line.{numbers}
-use Rattle.printing.specs.Printed.{Puts, line_at, word_lines}
+use Rattle.printing.specs.Printed.{Puts, Adds, word_line, word_lines, five_lines}
+use Rattle.printing.specs.declared.Page.{Page}
 
 -- A number has at most ten digits: what the room for a line goes by.
 pub ruleset short = (length-decimal)
@@ -35,76 +35,50 @@ puts_then {o} {bs} {cs} {at = at} h p q =
       next = omega (arith, p.next, q.next, length-append bs cs);
     }
 
--- No byte.
-pub puts_none : (o : List ℕ) (at : ℕ) → Puts o at [] (at + 0) o
+-- The same on a page, and none.
+pub adds_then : {p q r : Page} {bs cs : List ℕ} → Adds p bs q → Adds q cs r → Adds p (bs ++ cs) r
+adds_then {p} a b = record { same = b.same ∙ a.same; long = b.long ∙ a.long; puts = puts_then p.within a.puts b.puts }
+
+pub adds_none : (p : Page) → Adds p [] p
 unfolding splice
-puts_none o at = record { written = sym (take-append-drop at o); next = refl }
-
--- One byte.
-pub puts_one : (o : List ℕ) (at b : ℕ) → at < length o → Puts o at (b ∷ []) (at + 1) (set o at b)
-puts_one o at b h = record { written = sets-splice (b ∷ []) o at (omega arith); next = refl }
-
--- One byte more.
-pub puts-more : {o bs e : List ℕ} {at r : ℕ} (b : ℕ) → at ≤ length o → r < length e → Puts o at bs r e → Puts o at (bs ++ (b ∷ [])) (r + 1) (set e r b)
-puts-more {e = e} {r = r} b h l p = puts_then h p (puts_one e r b l)
-
--- One byte more of these.
-pub puts-next : {o e : List ℕ} {at : ℕ} (bytes : List ℕ) (i : ℕ) → at ≤ length o → at + i < length e → i < length bytes
-    → Puts o at (take i bytes) (at + i) e → Puts o at (take (i + 1) bytes) (at + (i + 1)) (set e (at + i) (get_or bytes i 0))
-puts-next {o} {e} {at} bytes i h l m p =
-    let after : List ℕ = set e (at + i) (get_or bytes i 0) in
-    let goes : at + i + 1 ≡ at + (i + 1) = omega arith in
-    subst₂ (λ bs r. Puts o at bs r after) (rw (add-one, take-suc bytes i 0)) goes (puts-more (get_or bytes i 0) h l p)
-
--- All of them.
-pub puts-all : {o e : List ℕ} {at : ℕ} (bytes : List ℕ) (i : ℕ) → i ≡ length bytes → Puts o at (take i bytes) (at + i) e → Puts o at bytes (at + length bytes) e
-puts-all {o} {e} {at} bytes i all p = subst₂ (λ bs n. Puts o at bs (at + n) e) (take_all i bytes (omega arith)) all p
+adds_none p = record { same = refl; long = refl; puts = record { written = sym (take-append-drop p.len p.bytes.now); next = omega arith } }
 
 -- ---- numbers
 
--- A number below 10.
-pub puts-digit : (o : List ℕ) (at x : ℕ) → x < 10 → at < length o → Puts o at (decimal x) (at + 1) (set o at (48 + x))
-puts-digit o at x small h = rw (decimal-one x small) (puts_one o at (48 + x) h)
+-- A number below 10, and any other: its last digit behind its tenth.
+pub adds-digit : {p q : Page} (x : ℕ) → x < 10 → Adds p ((48 + x) ∷ []) q → Adds p (decimal x) q
+adds-digit x small a = rw (decimal-one x small) a
 
--- Any other: its last digit behind its tenth.
-pub puts-last : {o e : List ℕ} {at r : ℕ} (x : ℕ) → 10 ≤ x → at ≤ length o → r < length e → Puts o at (decimal (x / 10)) r e
-    → Puts o at (decimal x) (r + 1) (set e r (48 + x % 10))
-puts-last x large h l p = rw (decimal-more x large) (puts-more (48 + x % 10) h l p)
+pub adds-last : {p q r : Page} (x : ℕ) → 10 ≤ x → Adds p (decimal (x / 10)) q → Adds q ((48 + x % 10) ∷ []) r → Adds p (decimal x) r
+adds-last x large a b = rw (decimal-more x large) (adds_then a b)
 
 -- ---- lines of words
 
--- Of two lists put together, the first in fives: the lines of the first, then those of the second.
-word_lines-append : (ws vs : List ℕ) → length ws % 5 ≡ 0 → word_lines (ws ++ vs) ≡ word_lines ws ++ word_lines vs
-unfolding word_lines
-word_lines-append [] vs h = refl
-word_lines-append (a ∷ []) vs h = absurd (omega arith)
-word_lines-append (a ∷ b ∷ []) vs h = absurd (omega arith)
-word_lines-append (a ∷ b ∷ c ∷ []) vs h = absurd (omega arith)
-word_lines-append (a ∷ b ∷ c ∷ d ∷ []) vs h = absurd (omega arith)
-word_lines-append (a ∷ b ∷ c ∷ d ∷ e ∷ ws) vs h =
-    let line = numbers a (b ∷ c ∷ d ∷ e ∷ []) in
-    ap (λ (r : List ℕ). line ++ r) (word_lines-append ws vs (omega arith)) ∙ sym (append_assoc line (word_lines ws) (word_lines vs))
-
--- Five words are one line.
-line_at-part : (ws : List ℕ) (at : ℕ) → at + 5 ≤ length ws → word_lines (part ws at 5) ≡ line_at ws at
-unfolding word_lines line_at row
-line_at-part ws at h = ap word_lines (sym (row-part ws at 5 0 h)) ∙ rw (add-zero, append-nil)
+-- Words cut into fives have the same lines.
+pub fives-lines : (ws : List ℕ) → five_lines (first_chunks 5 (length ws / 5) ws) ≡ word_lines ws
+unfolding five_lines word_lines word_line
+fives-lines [] = refl
+fives-lines (a ∷ []) = refl
+fives-lines (a ∷ b ∷ []) = refl
+fives-lines (a ∷ b ∷ c ∷ []) = refl
+fives-lines (a ∷ b ∷ c ∷ d ∷ []) = refl
+fives-lines (a ∷ b ∷ c ∷ d ∷ e ∷ ws) =
+    let more : length (a ∷ b ∷ c ∷ d ∷ e ∷ ws) / 5 ≡ suc (length ws / 5) = omega arith in
+    ap (λ k. five_lines (first_chunks 5 k (a ∷ b ∷ c ∷ d ∷ e ∷ ws))) more
+    ∙ ap (λ (r : List ℕ). numbers a (b ∷ c ∷ d ∷ e ∷ []) ++ r) (fives-lines ws)
 
 -- One line more.
-word_lines-more : (ws : List ℕ) (i : ℕ) → i * 5 + 5 ≤ length ws → word_lines (take ((i + 1) * 5) ws) ≡ word_lines (take (i * 5) ws) ++ line_at ws (i * 5)
-unfolding part
-word_lines-more ws i h =
-    let e : (i + 1) * 5 ≡ i * 5 + 5 = omega arith in
-    ap (λ n. word_lines (take n ws)) e
-    ∙ (ap word_lines (take-add (i * 5) 5 ws)
-    ∙ (word_lines-append (take (i * 5) ws) (part ws (i * 5) 5) (omega (arith, length-take-le (i * 5) ws (omega arith)))
-    ∙ ap (λ (r : List ℕ). word_lines (take (i * 5) ws) ++ r) (line_at-part ws (i * 5) h)))
+five_lines-more : (wss : List (List ℕ)) (i : ℕ) → i < length wss → five_lines (take (suc i) wss) ≡ five_lines (take i wss) ++ word_line (get_or wss i [])
+unfolding five_lines
+five_lines-more [] i h = absurd (omega arith)
+five_lines-more (ws ∷ wss) zero h = append-nil _
+five_lines-more (ws ∷ wss) (suc i) h =
+    ap (λ (r : List ℕ). word_line ws ++ r) (five_lines-more wss i (omega arith)) ∙ sym (append_assoc (word_line ws) (five_lines (take i wss)) (word_line (get_or wss i [])))
 
--- One line more put.
-pub puts-line : {o e e' : List ℕ} {r r' : ℕ} (ws : List ℕ) (i : ℕ) → i * 5 + 5 ≤ length ws
-    → Puts o 0 (word_lines (take (i * 5) ws)) r e → Puts e r (line_at ws (i * 5)) r' e' → Puts o 0 (word_lines (take ((i + 1) * 5) ws)) r' e'
-puts-line ws i h p q = rw (word_lines-more ws i h) (puts_then (omega arith) p q)
+pub adds-line : {p q r : Page} (wss : List (List ℕ)) (i : ℕ) → i < length wss → Adds p (five_lines (take i wss)) q → Adds q (word_line (get_or wss i [])) r
+    → Adds p (five_lines (take (i + 1) wss)) r
+adds-line wss i h a b = rw (add-one, five_lines-more wss i h) (adds_then a b)
 
--- All lines put.
-pub puts-lines : {o e : List ℕ} {r : ℕ} (ws : List ℕ) (i : ℕ) → length ws ≤ i * 5 → Puts o 0 (word_lines (take (i * 5) ws)) r e → Puts o 0 (word_lines ws) r e
-puts-lines ws i all p = rw (take_all (i * 5) ws all) at p
+-- All of them.
+pub adds-lines : {p q : Page} (ws : List ℕ) (wss : List (List ℕ)) (i : ℕ) → wss ≡ first_chunks 5 (length ws / 5) ws → length wss ≤ i → Adds p (five_lines (take i wss)) q → Adds p (word_lines ws) q
+adds-lines ws wss i are all a = rw (take_all i wss all, are, fives-lines ws) at a

@@ -1,73 +1,84 @@
-// Bytes, numbers and answers, put at a place of a lent buffer. Each function answers the place behind.
+// Bytes, numbers and answers, put one behind another at the front of a lent buffer.
 #![tactic(auto)]
 
 ghost use Rattle.std.specs.Prelude.{◌+◌, ◌*◌, ◌≤◌, length, ◌∷◌, ◌≡◌};
 ghost use Rattle.lines.specs.Decimal.{decimal};
-ghost use Rattle.printing.specs.Printed.{Puts, line_at, word_lines};
 
-// These bytes.
-pub fn put_bytes(out: &mut [u8], at: usize, bytes: &[u8]) -> usize
-    requires { at + length bytes.now ≤ length out.old }
-    ensures { Puts out.old at bytes.now result out.new }
-{
-    let mut i = 0;
-    while i < bytes.len() {
-        out[at + i] = bytes[i];
-        i += 1;
+// A lent buffer, and how many bytes have been put at its front.
+#[derive(Drop)]
+pub struct Page<'a> {
+    pub bytes: &'a mut [u8],
+    pub len: usize,
+    ghost within: { len ≤ length bytes.now },
+}
+
+impl<'a> Page<'a> {
+    ghost use Rattle.printing.specs.Printed.{Empty, Adds, word_line, word_lines};
+
+    // An empty one.
+    pub fn new(bytes: &'a mut [u8]) -> Self
+        ensures { Empty bytes.entry result }
+    {
+        Page { bytes, len: 0 }
     }
-    at + bytes.len()
-}
 
-// A number's digits: those of its tenth, and the last.
-pub fn put_number(out: &mut [u8], at: usize, x: u32) -> usize
-    requires { at + length (decimal x) ≤ length out.old }
-    ensures { Puts out.old at (decimal x) result out.new }
-{
-    if x < 10 {
-        out[at] = b'0' + x as u8;
-        return at + 1;
+    // These bytes.
+    pub fn put(&mut self, piece: &[u8])
+        requires { self.old.len + length piece.now ≤ length self.old.bytes.now }
+        ensures { Adds self.old piece.now self.new }
+    {
+        let end = self.len + piece.len();
+        self.bytes[self.len..end].copy_from_slice(piece);
+        self.len = end;
     }
-    let last = put_number(out, at, x / 10);
-    out[last] = b'0' + (x % 10) as u8;
-    last + 1
-}
 
-// A space and a number: at most 11 bytes.
-fn put_field(out: &mut [u8], at: usize, x: u32) -> usize
-    requires { at + 11 ≤ length out.old }
-    ensures puts { Puts out.old at (32 ∷ decimal x) result out.new }
-    ensures within { result ≤ at + 11 }
-{
-    out[at] = b' ';
-    put_number(out, at + 1, x)
-}
-
-// The line of an answer, the five words from a place on: at most 55 bytes.
-#[tactic(auto, using(crate::proofs::PrintedLaws::short))]
-fn put_answer(out: &mut [u8], at: usize, words: &[u32], from: usize) -> usize
-    requires { (at + 55 ≤ length out.old) × (from + 5 ≤ length words.now) }
-    ensures puts { Puts out.old at (line_at words.now from) result out.new }
-    ensures within { result ≤ at + 55 }
-{
-    let code = put_number(out, at, words[from]);
-    let server = put_field(out, code, words[from + 1]);
-    let origin = put_field(out, server, words[from + 2]);
-    let clock = put_field(out, origin, words[from + 3]);
-    let value = put_field(out, clock, words[from + 4]);
-    out[value] = b'\n';
-    value + 1
-}
-
-// The lines of so many answers, from the buffer's start on.
-pub fn put_answers(out: &mut [u8], words: &[u32], count: usize) -> usize
-    requires { (count * 55 ≤ length out.old) × (length words.now ≡ count * 5) }
-    ensures { Puts out.old 0 (word_lines words.now) result out.new }
-{
-    let mut at = 0;
-    let mut i = 0;
-    while i < count {
-        at = put_answer(out, at, words, i * 5);
-        i += 1;
+    // A number's digits: those of its tenth, and the last.
+    // No `write!`: it answers a `Result`, and its promise speaks of std's own decimals.
+    pub fn put_number(&mut self, x: u32)
+        requires { self.old.len + length (decimal x) ≤ length self.old.bytes.now }
+        ensures { Adds self.old (decimal x) self.new }
+    {
+        if x < 10 {
+            self.put(&[b'0' + x as u8]);
+        } else {
+            self.put_number(x / 10);
+            self.put(&[b'0' + (x % 10) as u8]);
+        }
     }
-    at
+
+    // A space and a number: at most 11 bytes.
+    fn put_field(&mut self, x: u32)
+        requires { self.old.len + 11 ≤ length self.old.bytes.now }
+        ensures adds { Adds self.old (32 ∷ decimal x) self.new }
+        ensures within { self.new.len ≤ self.old.len + 11 }
+    {
+        self.put(b" ");
+        self.put_number(x);
+    }
+
+    // The line of an answer's five words: at most 55 bytes.
+    #[tactic(auto, using(crate::proofs::PrintedLaws::short))]
+    fn put_answer(&mut self, answer: &[u32; 5])
+        requires { self.old.len + 55 ≤ length self.old.bytes.now }
+        ensures adds { Adds self.old (word_line answer.now) self.new }
+        ensures within { self.new.len ≤ self.old.len + 55 }
+    {
+        let [code, server, origin, clock, value] = *answer;
+        self.put_number(code);
+        self.put_field(server);
+        self.put_field(origin);
+        self.put_field(clock);
+        self.put_field(value);
+        self.put(b"\n");
+    }
+
+    // The lines of answers, five words each.
+    pub fn put_answers(&mut self, words: &[u32])
+        requires { self.old.len + length words.now * 11 ≤ length self.old.bytes.now }
+        ensures { Adds self.old (word_lines words.now) self.new }
+    {
+        for answer in words.as_chunks::<5>().0 {
+            self.put_answer(answer);
+        }
+    }
 }

@@ -1,8 +1,8 @@
 -- Collecting finds exactly what it says: all lines, a bad one, or more than there is room for. Assumes nothing.
+use Rattle.std.proofs.lemmas.Option.{none-some}
 use Prim.Native.Nat.{ℕ, zero, suc, ◌+◌, ◌-◌, ◌<◌}
 use mathlib.Core.List.{List, [], ◌∷◌, ◌++◌, append-nil, append_assoc}
-use Rattle.std.proofs.Math.Option.{Option, none, some, none-ne-some}
-use Rattle.std.specs.Prelude.{◌≡◌}
+use Rattle.std.specs.Prelude.{Option, None, Some, ◌≡◌}
 use Rattle.std.proofs.Math.Path.{refl, ap}
 use Rattle.std.proofs.Common.{sym, ◌∙◌, subst, subst₂, arith}
 use Rattle.std.proofs.Math.ListN.{length}
@@ -33,11 +33,11 @@ says-push {z} {room} {line} said (goes_on {front = front} rest lines fill there)
     (goes_on rest (next_line said lines) (ap suc fill) there)
 
 -- Where no line is read, none is spelled.
-unread-bad : (b : ℕ) (bs : List ℕ) → read_step (b ∷ bs) ≡ none → BadNext (b ∷ bs)
+unread-bad : (b : ℕ) (bs : List ℕ) → read_step (b ∷ bs) ≡ None → BadNext (b ∷ bs)
 unread-bad b bs e =
     record {
       is_there = omega arith;
-      is_bad = λ x line more said is. none-ne-some _ (sym e ∙ (ap read_step is ∙ step-read said more));
+      is_bad = λ x line more said is. none-some _ (sym e ∙ (ap read_step is ∙ step-read said more));
     }
 
 -- Whatever is collected holds of the text.
@@ -50,28 +50,28 @@ collect-says z (suc room) (b ∷ bs) = next (read_step (b ∷ bs)) refl (λ rest
   where
     next : (o : Option (Got Step)) → read_step (b ∷ bs) ≡ o → ((rest : List ℕ) → Says z room rest (collect z room rest))
         → Says z (suc room) (b ∷ bs) (onto o (λ rest. collect z room rest))
-    next none e later = one_bad no_lines (omega arith) (unread-bad b bs e)
-    next (some g) e later =
+    next None e later = one_bad no_lines (omega arith) (unread-bad b bs e)
+    next (Some g) e later =
         let said = read-step (b ∷ bs) g e in
         subst (λ text. Says z (suc room) text (push g.value (collect z room g.rest))) (sym said.is) (says-push said.spells (later g.rest))
 
 -- ---- what holds is collected
 
 -- Where no line is spelled, none is read.
-bad-unread : (text : List ℕ) → BadNext text → read_step text ≡ none
+bad-unread : (text : List ℕ) → BadNext text → read_step text ≡ None
 bad-unread text bad = go (read_step text) refl
   where
-    go : (o : Option (Got Step)) → read_step text ≡ o → read_step text ≡ none
-    go none e = e
-    go (some g) e =
+    go : (o : Option (Got Step)) → read_step text ≡ o → read_step text ≡ None
+    go None e = e
+    go (Some g) e =
         let said = read-step text g e in
         absurd (bad.is_bad g.value said.line g.rest said.spells said.is)
 
 module _ (z : Size) where
   -- A line that is read.
-  pub collect-read : (room : ℕ) (text : List ℕ) (g : Got Step) → read_step text ≡ some g → collect z (suc room) text ≡ push g.value (collect z room g.rest)
+  pub collect-read : (room : ℕ) (text : List ℕ) (g : Got Step) → read_step text ≡ Some g → collect z (suc room) text ≡ push g.value (collect z room g.rest)
   unfolding collect unless_ended onto read_step
-  collect-read room [] g e = absurd (none-ne-some g e)
+  collect-read room [] g e = absurd (none-some g e)
   collect-read room (b ∷ bs) g e = ap (λ o. onto o (λ rest. collect z room rest)) e
 
   -- Behind the lines of some steps it ends as it does from there on, and each step is pushed before that.
@@ -94,7 +94,7 @@ module _ (z : Size) where
   collect-ended (suc room) = refl
 
   -- no line is read,
-  pub collect-unread : (room : ℕ) (text : List ℕ) → 0 < length text → read_step text ≡ none → collect z (suc room) text ≡ bad_at 2
+  pub collect-unread : (room : ℕ) (text : List ℕ) → 0 < length text → read_step text ≡ None → collect z (suc room) text ≡ bad_at 2
   unfolding collect unless_ended onto
   collect-unread room [] there e = absurd (omega arith)
   collect-unread room (b ∷ bs) there e = ap (λ o. onto o (λ rest. collect z room rest)) e

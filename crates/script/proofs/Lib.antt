@@ -4,4 +4,3 @@ pub mod ListedLaws
 pub mod PromisedLaws
 pub mod ReplyLaws
 pub mod TenLines
-pub mod WalkedLaws

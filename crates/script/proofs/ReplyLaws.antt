@@ -1,7 +1,7 @@
 -- The reply that the code finds is one of those that Reply.antt allows, and there is no other. Assumes nothing.
-use Rattle.std.specs.Prelude.{ℕ, ◌+◌, ◌<◌, ◌≤◌, true, false, List, ◌++◌, ◌≡◌, refl, ltb, leb, length, take}
+use Rattle.std.proofs.lemmas.Option.{none-some, same_Some}
+use Rattle.std.specs.Prelude.{ℕ, ◌+◌, ◌<◌, ◌≤◌, true, false, List, ◌++◌, ◌≡◌, refl, ltb, leb, length, take, Option, None, Some}
 use Rattle.std.proofs.Common.{append_assoc, ⊎_elim, sym, ◌∙◌, ap, subst, arith, ltb-true, ltb-false, lt-ltb, le-ltb, take_all, length-take-le}
-use Rattle.std.proofs.Math.Option.{Option, none, some, none-ne-some, some-injective}
 use Rattle.words.specs.CaseLaws.{lt-or-le}
 use Rattle.words.specs.TestLaws.{cond-elim, cond-true, cond-false, and_left, true-not-false}
 use Rattle.tables.specs.Size.{Size, within}
@@ -21,20 +21,20 @@ use Rattle.script.specs.ReplyLaws.{first}
 -- ---- the first line
 
 -- A good first line is read.
-first_read : (text : List ℕ) (z : Size) (rest : List ℕ) → admissible z ≡ true → text ≡ size_line z ++ rest → read_sizes text ≡ some (first z rest)
+first_read : (text : List ℕ) (z : Size) (rest : List ℕ) → admissible z ≡ true → text ≡ size_line z ++ rest → read_sizes text ≡ Some (first z rest)
 unfolding admissible
 first_read text z rest ok is =
     let b = (within-exactly z).0 (and_left (within z) (leb z.l 128) ok) in
     ap read_sizes is ∙ sizes-read z (omega (arith, b.few_servers)) (omega (arith, b.few_places)) (omega (arith, b.few_slots)) rest
 
 -- Where none is read, or one of inadmissible sizes, there is none.
-unread-bad : (text : List ℕ) → read_sizes text ≡ none → BadFirst text
-unread-bad text e z rest ok is = none-ne-some (first z rest) (sym e ∙ first_read text z rest ok is)
+unread-bad : (text : List ℕ) → read_sizes text ≡ None → BadFirst text
+unread-bad text e z rest ok is = none-some (first z rest) (sym e ∙ first_read text z rest ok is)
 
-inadmissible-bad : (text : List ℕ) (g : Got Step) → read_sizes text ≡ some g → admissible (sizes_of g.value) ≡ false → BadFirst text
+inadmissible-bad : (text : List ℕ) (g : Got Step) → read_sizes text ≡ Some g → admissible (sizes_of g.value) ≡ false → BadFirst text
 unfolding sizes_of
 inadmissible-bad text g e fails z rest ok is =
-    let same = some-injective g (first z rest) (sym e ∙ first_read text z rest ok is) in
+    let same = same_Some g (first z rest) (sym e ∙ first_read text z rest ok is) in
     true-not-false (ap (λ h. admissible (sizes_of h.value)) same ∙ ok) fails
 
 -- ---- the reply that is found is one
@@ -53,8 +53,8 @@ behind-found text z short ok is (goes_on {xs = xs} {front = front} rest lines fi
 -- With the first line as it was read.
 from_found : (text : List ℕ) → length text ≤ most_bytes → (o : Option (Got Step)) → read_sizes text ≡ o → Reply text (reply_for (collect_from o))
 unfolding collect_from reply_for sizes_of
-from_found text short none e = bad_first_line short (unread-bad text e)
-from_found text short (some g) e =
+from_found text short None e = bad_first_line short (unread-bad text e)
+from_found text short (Some g) e =
     cond-elim (λ (o : Collected). Reply text (reply_for o)) (admissible (sizes_of g.value))
     (λ ok. behind-found text (sizes_of g.value) short ok (read-sizes text g e) (collect-says (sizes_of g.value) most_steps g.rest))
     (λ fails. bad_first_line short (inadmissible-bad text g e fails))
@@ -80,8 +80,8 @@ short-one text short = cond-false (ltb most_bytes (length text)) _ _ (le-ltb mos
 -- Without a good first line it is bad line 1.
 bad-one : (text : List ℕ) → BadFirst text → (o : Option (Got Step)) → read_sizes text ≡ o → collect_from o ≡ bad_at 1
 unfolding collect_from sizes_of
-bad-one text bad none e = refl
-bad-one text bad (some g) e =
+bad-one text bad None e = refl
+bad-one text bad (Some g) e =
     cond-elim (λ (o : Collected). o ≡ bad_at 1) (admissible (sizes_of g.value))
     (λ ok. absurd (bad (sizes_of g.value) g.rest ok (read-sizes text g e))) (λ fails. refl)
 

@@ -1,7 +1,6 @@
 -- The reply as the code finds it: the first line, then line after line. ReplyLaws.antt says that this is the one reply of Reply.antt.
 -- Assumes nothing.
-use Rattle.std.specs.Prelude.{ℕ, zero, suc, cond, List, [], ◌∷◌, ltb, length}
-use Rattle.std.proofs.Math.Option.{Option, none, some}
+use Rattle.std.specs.Prelude.{ℕ, zero, suc, cond, List, [], ◌∷◌, ltb, length, Option, None, Some}
 use Rattle.tables.specs.Size.{Size}
 use Rattle.tables.specs.Make.{fresh}
 use Rattle.rules.specs.Step.{Step}
@@ -23,8 +22,8 @@ push x longer = longer
 
 -- The first step stands on line 2.
 unfoldable pub onto : Option (Got Step) → (List ℕ → Collected) → Collected
-onto none further = bad_at 2
-onto (some g) further = push g.value (further g.rest)
+onto None further = bad_at 2
+onto (Some g) further = push g.value (further g.rest)
 
 -- At the end of the text that is all.
 unfoldable pub unless_ended : Size → List ℕ → Collected → Collected
@@ -42,8 +41,8 @@ sizes_of x = record { n = x.a; l = x.b; p = x.c }
 
 -- From the first line on.
 unfoldable pub collect_from : Option (Got Step) → Collected
-collect_from none = bad_at 1
-collect_from (some g) = cond (admissible (sizes_of g.value)) (collect (sizes_of g.value) most_steps g.rest) (bad_at 1)
+collect_from None = bad_at 1
+collect_from (Some g) = cond (admissible (sizes_of g.value)) (collect (sizes_of g.value) most_steps g.rest) (bad_at 1)
 
 unfoldable pub reply_for : Collected → List ℕ
 reply_for (whole z xs) = answer_lines (walk (fresh z) xs).answers

@@ -5,5 +5,4 @@ pub mod ReplyLaws
 pub mod TenLines
 pub mod Listed
 pub mod ListedLaws
-pub mod WalkedLaws
 pub mod Promised

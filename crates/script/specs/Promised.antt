@@ -1,10 +1,11 @@
 -- What the code's functions that answer a script promise, and how much room they need. Assumes nothing.
-use Rattle.std.specs.Prelude.{ℕ, ◌≤◌, Bool, ◌&&◌, List, ◌++◌, ◌≡◌, leb, length, drop}
+use Rattle.std.specs.Prelude.{ℕ, ◌≤◌, Bool, ◌&&◌, List, ◌++◌, ◌≡◌, leb, length, drop, Result, Ok, Err}
 use Rattle.tables.specs.Size.{Size}
 use Rattle.tables.specs.Make.{fresh}
 use Rattle.rules.specs.Step.{Answer, steps_of}
 use Rattle.rules.specs.Calls.{walk}
 use Rattle.script.specs.Reply.{Reply}
+use Rattle.script.specs.declared.NoRoom.{NoRoom}
 
 -- The answers of a list of steps on a fresh table.
 unfoldable pub answers_of : Size → List ℕ → List Answer
@@ -22,6 +23,15 @@ pub record Room (table steps answers out : List ℕ) : Type 0 where
 unfoldable pub roomy : (table steps answers out : List ℕ) → Bool
 roomy table steps answers out =
     leb 9012 (length table) && (leb 2560 (length steps) && (leb 2560 (length answers) && leb 28160 (length out)))
+
+-- What `reply` answers, as 01's code and how many bytes the reply has.
+abbrev pub code_of : Result ℕ NoRoom → ℕ
+code_of (Ok count) = 0
+code_of (Err e) = 8
+
+abbrev pub count_of : Result ℕ NoRoom → ℕ
+count_of (Ok count) = count
+count_of (Err e) = 0
 
 -- The reply stands at the front of the buffer, whose other bytes are as they were. The code is 0, the count the reply's length.
 pub record Replied (text out : List ℕ) (code count : ℕ) (left : List ℕ) : Type 0 where

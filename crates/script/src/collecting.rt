@@ -1,128 +1,48 @@
 // The sizes and steps of a text, the steps as words.
-ghost use Rattle.std.specs.Prelude.{◌≡◌, [], ◌∷◌, ◌+◌, ◌*◌, ◌≤◌, length};
-ghost use Rattle.words.specs.Lists.{splice};
-ghost use Rattle.script.specs.Listed.{Fits, ListedPromise, PutPromise, answer_first, goes_on};
-ghost use Rattle.script.specs.declared.collecting.Listed.{Listed};
+ghost use Rattle.std.specs.Prelude.{◌≤◌, length};
+ghost use Rattle.script.specs.Listed.{ListedPromise};
 
 use crate::answering;
-use lines::Line;
+use lines::Reader;
 use tables::Table;
 
-// Before the first line; sizes and so many steps; the number of a bad line; or more lines than there is room for.
+// The sizes of a script, and how many steps it has.
 #[derive(Clone, Copy)]
-pub enum Listed {
-    Unread,
-    Whole {
-        n: u32,
-        l: u32,
-        p: u32,
-        count: usize,
-    },
-    BadAt(u32),
-    Longer,
+pub struct Listed {
+    pub sizes: Table,
+    pub count: usize,
 }
 
-// A step's five words, at place i of a list.
-fn put_step(steps: &mut [u32], i: usize, kind: u32, a: u32, b: u32, c: u32, d: u32)
-    requires { i * 5 + 5 ≤ length steps.old }
-    ensures { steps.new ≡ splice (i * 5) 5 steps.old (kind ∷ a ∷ b ∷ c ∷ d ∷ []) }
-{
-    let at = i * 5;
-    steps[at] = kind;
-    steps[at + 1] = a;
-    steps[at + 2] = b;
-    steps[at + 3] = c;
-    steps[at + 4] = d;
-}
-
-// The first line: sizes that a script may ask for, and no steps yet, or a bad line.
-fn put_first(line: Line) -> Listed
-    ensures { result ≡ answer_first line }
-{
-    match line {
-        Line::Good { a, b, c, .. } => {
-            if answering::is_admissible(Table::new(a, b, c)) {
-                return Listed::Whole {
-                    n: a,
-                    l: b,
-                    p: c,
-                    count: 0,
-                };
-            }
-            Listed::BadAt(1)
-        }
-        Line::Bad => Listed::BadAt(1),
-    }
-}
-
-// One line more behind sizes and so many steps: its step, put behind theirs, or a bad line, or one for which there is no room.
-fn put_behind(steps: &mut [u32], n: u32, l: u32, p: u32, count: usize, line: Line) -> Listed
-    requires { (count ≤ 512) × (2560 ≤ length steps.old) }
-    ensures { PutPromise steps.old (Listed.Whole n l p count) line result steps.new }
-{
-    if count == crate::MOST_STEPS {
-        return Listed::Longer;
-    }
-    // The first step stands on line 2.
-    let number = count as u32 + 2;
-    match line {
-        Line::Good {
-            kind,
-            a,
-            b,
-            c,
-            d,
-            ..
-        } => {
-            put_step(steps, count, kind, a, b, c, d);
-            Listed::Whole {
-                n,
-                l,
-                p,
-                count: count + 1,
-            }
-        }
-        Line::Bad => Listed::BadAt(number),
-    }
-}
-
-// One line more behind what was listed so far. Behind a bad line, and past the room, nothing is listed.
-fn put_line(steps: &mut [u32], listed: Listed, line: Line) -> Listed
-    requires { Fits listed × (2560 ≤ length steps.old) }
-    ensures { PutPromise steps.old listed line result steps.new }
-{
-    match listed {
-        Listed::Unread => put_first(line),
-        Listed::Whole { n, l, p, count } => put_behind(steps, n, l, p, count, line),
-        Listed::BadAt(k) => Listed::BadAt(k),
-        Listed::Longer => Listed::Longer,
-    }
-}
-
-// Is there a next line to be listed, in a text of so many bytes that is read up to a place? A first line there always is: that of an
-// empty text is bad.
-fn goes_on(listed: Listed, at: usize, bytes: usize) -> bool
-    ensures { result ≡ goes_on listed at bytes }
-{
-    match listed {
-        Listed::Unread => true,
-        Listed::Whole { .. } => at < bytes,
-        Listed::BadAt(_) => false,
-        Listed::Longer => false,
-    }
+// What is wrong with a text: the line of this number, or that there are more lines than there is room for.
+#[derive(Clone, Copy, Debug, PartialEq, Eq)]
+pub enum Fault {
+    BadLine(u32),
+    TooLong,
 }
 
 // The sizes of a text, and its steps, put one after another into the list, which has room for 512 of them. One reader walks the whole
 // text, line by line.
-pub fn collect(text: &[u8], steps: &mut [u32]) -> Listed
+pub fn collect(text: &[u8], steps: &mut [u32]) -> Result<Listed, Fault>
     requires { 2560 ≤ length steps.old }
     ensures { ListedPromise text.now result steps.new }
 {
-    let mut r = lines::new(text, 0);
-    let mut listed = Listed::Unread;
-    while goes_on(listed, r.at, text.len()) {
-        let line = lines::next(&mut r);
-        listed = put_line(steps, listed, line);
+    let mut reader = Reader::new(text, 0);
+    let [_, n, l, p, _] = reader.next().ok_or(Fault::BadLine(1))?;
+    let sizes = Table::new(n, l, p);
+    if !answering::is_admissible(sizes) {
+        return Err(Fault::BadLine(1));
     }
-    listed
+    let mut count = 0;
+    // No `for`: the reader's `None` is a bad line, and not the end.
+    while reader.at < text.len() {
+        if count == crate::MOST_STEPS {
+            return Err(Fault::TooLong);
+        }
+        // The first step stands on line 2.
+        let number = count as u32 + 2;
+        let step = reader.next().ok_or(Fault::BadLine(number))?;
+        words::put(steps, count, &step);
+        count += 1;
+    }
+    Ok(Listed { sizes, count })
 }

@@ -1,23 +1,24 @@
 // What is printed instead of answers.
-ghost use Rattle.std.specs.Prelude.{◌≤◌, length};
-ghost use Rattle.printing.specs.Printed.{Puts};
+ghost use Rattle.std.specs.Prelude.{◌+◌, ◌≤◌, length};
+ghost use Rattle.printing.specs.Printed.{Adds};
 ghost use Rattle.script.specs.Reply.{too_long, bad_line};
 
-// `too long`, from the buffer's start on.
-pub fn too_long(out: &mut [u8]) -> usize
-    requires { 9 ≤ length out.old }
-    ensures { Puts out.old 0 too_long result out.new }
+use printing::Page;
+
+// `too long`
+pub fn too_long(page: &mut Page)
+    requires { page.old.len + 9 ≤ length page.old.bytes.now }
+    ensures { Adds page.old too_long page.new }
 {
-    printing::put_bytes(out, 0, b"too long\n")
+    page.put(b"too long\n");
 }
 
-// `bad line K`, from the buffer's start on.
-pub fn bad_line(out: &mut [u8], k: u32) -> usize
-    requires { length (bad_line k) ≤ length out.old }
-    ensures { Puts out.old 0 (bad_line k) result out.new }
+// `bad line K`
+pub fn bad_line(page: &mut Page, k: u32)
+    requires { page.old.len + length (bad_line k) ≤ length page.old.bytes.now }
+    ensures { Adds page.old (bad_line k) page.new }
 {
-    let words = printing::put_bytes(out, 0, b"bad line ");
-    let number = printing::put_number(out, words, k);
-    out[number] = b'\n';
-    number + 1
+    page.put(b"bad line ");
+    page.put_number(k);
+    page.put(b"\n");
 }

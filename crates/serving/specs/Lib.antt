@@ -1,3 +1,4 @@
+pub mod Asked
 pub mod ChangeLaws
 pub mod ReadLaws
 pub mod WriteLaws

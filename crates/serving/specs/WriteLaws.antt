@@ -14,7 +14,7 @@ use Rattle.tables.proofs.SoundStateLaws.{vector-within}
 use Rattle.tables.proofs.ViewLaws.{room-view, vector-view}
 use Rattle.choice.specs.Outcome.{Asking, session_in}
 use Rattle.rules.specs.Rules.{new_write, write_answer, write_to}
-use Rattle.kinds.specs.Obeys.{Comes}
+use Rattle.kinds.specs.Obeys.{Came}
 use Rattle.serving.specs.ChangeLaws.{write-stores}
 
 module _ {z : Size} {t : List ℕ} {k : ℕ} (asking : Asking z t k) (i : ℕ) (h : i < z.n) where
@@ -41,7 +41,7 @@ module _ {z : Size} {t : List ℕ} {k : ℕ} (asking : Asking z t k) (i : ℕ) (
       → at-vector ≡ vector_at z i i
       → at-write ≡ write_at z k i
       → at_last ≡ last_used_at z k
-      → Comes z (write_to z (decode z t) k item value (session_in z t k) (some i) (some i)) (record { code = 0; server = i; origin = i; clock = clock; value = value })
+      → Came z (write_to z (decode z t) k item value (session_in z t k) (some i) (some i)) (record { code = 0; server = i; origin = i; clock = clock; value = value })
       (set (set (set added at-vector clock) at-write clock) at_last (i + 1))
   unfolding write_to write_answer new_write
   write_done item value free timed stored at-vector at-write at_last =

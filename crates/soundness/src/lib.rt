@@ -3,67 +3,49 @@
 #![tactic(auto)]
 
 ghost use Rattle.std.specs.Prelude.{◌≡◌};
-ghost use Rattle.tables.specs.Shape.{shape, Laid};
+ghost use Rattle.tables.specs.Shape.{shape};
 ghost use Rattle.tables.specs.Sound.{sound};
-ghost use Rattle.agreement.specs.Shares.{Counted};
 ghost use Rattle.soundness.specs.Shares.{laid_out, rules_from_b, rules_from_c};
 
+use agreement::Counted;
 use tables::Table;
+use views::View;
 
 mod counts;
 mod slots;
 
 // Is the table sound: has it its length and header, and do rules b to f hold of its words?
+#[tactic(auto, unfolding(tables::specs::Sound::sound, tables::specs::Sound::sound_at, tables::specs::Sound::rule_a, tables::specs::Layout::size_of, tables::specs::Layout::size, crate::specs::Shares::laid_out, crate::specs::Shares::rules_from_b, crate::specs::Shares::rules_from_c))]
 pub fn sound(t: &[u32]) -> bool
     ensures { result ≡ sound t.now }
 {
-    if t.len() < 4 {
+    let [n, l, p, 0, ..] = *t else {
         return false;
-    }
-    if t[3] != 0 {
-        return false;
-    }
-    let z = Table::new(t[0], t[1], t[2]);
-    if !laid_out(t, z) {
-        return false;
-    }
-    keeps_rules_from_b(t, z)
+    };
+    let sizes = Table::new(n, l, p);
+    is_laid_out(t, sizes) && keeps_rules_from_b(&View { words: t, sizes })
 }
 
 // Rule a: are the sizes within the limits, and has the slice the length that they ask for?
-fn laid_out(t: &[u32], z: Table) -> bool
-    ensures { result ≡ laid_out (shape z) t.now }
+#[tactic(auto, unfolding(crate::specs::Shares::laid_out))]
+fn is_laid_out(t: &[u32], sizes: Table) -> bool
+    ensures { result ≡ laid_out (shape sizes) t.now }
 {
-    if !z.is_within() {
-        return false;
-    }
-    t.len() == z.words()
+    sizes.is_within() && t.len() == sizes.words()
 }
 
 // Rules b to f.
-fn keeps_rules_from_b(t: &[u32], z: Table) -> bool
-    requires { Laid (shape z) t.now }
-    ensures { result ≡ rules_from_b (shape z) t.now }
+#[tactic(auto, unfolding(crate::specs::Shares::rules_from_b))]
+fn keeps_rules_from_b(view: &View) -> bool
+    ensures { result ≡ rules_from_b (shape view.now.sizes) view.now.words.now }
 {
-    if !counts::all_counted(t, z) {
-        return false;
-    }
-    keeps_rules_from_c(t, z)
+    counts::all_counted(view) && keeps_rules_from_c(&Counted { view: *view })
 }
 
 // Rules c to f, of a table whose counts fit.
-fn keeps_rules_from_c(t: &[u32], z: Table) -> bool
-    requires { Counted (shape z) t.now }
-    ensures { result ≡ rules_from_c (shape z) t.now }
+#[tactic(auto, unfolding(crate::specs::Shares::rules_from_c))]
+fn keeps_rules_from_c(table: &Counted) -> bool
+    ensures { result ≡ rules_from_c (shape table.now.view.sizes) table.now.view.words.now }
 {
-    if !agreement::all_in_order(t, z) {
-        return false;
-    }
-    if !agreement::all_follow(t, z) {
-        return false;
-    }
-    if !agreement::all_agree(t, z) {
-        return false;
-    }
-    slots::all_hold(t, z)
+    table.all_in_order() && table.all_follow() && table.all_agree() && slots::all_hold(&table.view)
 }

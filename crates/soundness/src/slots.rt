@@ -3,67 +3,48 @@
 ghost use Rattle.std.specs.Prelude.{◌≡◌, ◌<◌, length};
 ghost use Rattle.vectors.specs.Vector.{vector_of};
 ghost use Rattle.tables.specs.Layout.{decode};
-ghost use Rattle.tables.specs.Shape.{shape, Laid};
+ghost use Rattle.tables.specs.Shape.{shape};
 ghost use Rattle.tables.specs.Sound.{rule_f};
 ghost use Rattle.soundness.specs.Shares.{slot_holds, open_holds, none_above};
 
-use agreement::component;
 use tables::Table;
+use views::View;
 
 // Rule f, of every slot.
-pub fn all_hold(t: &[u32], z: Table) -> bool
-    requires { Laid (shape z) t.now }
-    ensures { result ≡ rule_f (shape z) (decode (shape z) t.now) t.now }
+pub fn all_hold(view: &View) -> bool
+    ensures { result ≡ rule_f (shape view.now.sizes) (decode (shape view.now.sizes) view.now.words.now) view.now.words.now }
 {
-    let mut k = 0;
-    while k < z.p {
-        if !slot_holds(t, z, k) {
-            return false;
-        }
-        k += 1;
-    }
-    true
+    (0..view.sizes.p).all(|k| slot_holds(view, k))
 }
 
 // Rule f, of slot k.
-fn slot_holds(t: &[u32], z: Table, k: usize) -> bool
-    requires { Laid (shape z) t.now × (k < z.p) }
-    ensures { result ≡ slot_holds (shape z) t.now k }
+fn slot_holds(view: &View, k: usize) -> bool
+    requires { k < view.now.sizes.p }
+    ensures { result ≡ slot_holds (shape view.now.sizes) view.now.words.now k }
 {
-    if views::guarantees(t, z, k) == 0 {
-        return words::all_zero(views::slot(t, z, k));
+    if view.guarantees(k) == 0 {
+        words::all_zero(view.slot(k))
+    } else {
+        open_slot_holds(view, k)
     }
-    open_slot_holds(t, z, k)
 }
 
 // Rule f, of slot k, which is open.
-fn open_slot_holds(t: &[u32], z: Table, k: usize) -> bool
-    requires { Laid (shape z) t.now × (k < z.p) }
-    ensures { result ≡ open_holds (shape z) t.now k }
+#[tactic(auto, unfolding(crate::specs::Shares::open_holds))]
+fn open_slot_holds(view: &View, k: usize) -> bool
+    requires { k < view.now.sizes.p }
+    ensures { result ≡ open_holds (shape view.now.sizes) view.now.words.now k }
 {
-    if Table::SUMS < views::guarantees(t, z, k) {
-        return false;
-    }
-    if z.n < views::last_used(t, z, k) as usize {
-        return false;
-    }
-    if !none_above(t, z, views::read_vector(t, z, k)) {
-        return false;
-    }
-    none_above(t, z, views::write_vector(t, z, k))
+    view.guarantees(k) <= Table::SUMS
+        && view.last_used(k) as usize <= view.sizes.n
+        && none_above(view, view.read_vector(k))
+        && none_above(view, view.write_vector(k))
 }
 
-// Is each component of a session's vector v at most that server's own?
-fn none_above(t: &[u32], z: Table, v: &[u32]) -> bool
-    requires { Laid (shape z) t.now × (length v.now ≡ z.n) }
-    ensures { result ≡ none_above (shape z) t.now (vector_of v.now) }
+// Is each component of a session's vector at most that server's own?
+fn none_above(view: &View, vector: &[u32]) -> bool
+    requires { length vector.now ≡ view.now.sizes.n }
+    ensures { result ≡ none_above (shape view.now.sizes) view.now.words.now (vector_of vector.now) }
 {
-    let mut j = 0;
-    while j < z.n {
-        if component(t, z, j, j) < v[j] {
-            return false;
-        }
-        j += 1;
-    }
-    true
+    (0..view.sizes.n).all(|j| vector[j] <= view.component(j, j))
 }

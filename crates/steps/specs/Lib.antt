@@ -1,3 +1,4 @@
 pub mod Taken
 pub mod StepLaws
 pub mod TakenLaws
+pub mod OneLaws

@@ -1,6 +1,6 @@
 -- A step on any table: from the check of the table and what was done, to the promise; and its answer as five words of a buffer. Assumes
 -- nothing.
-use Rattle.std.specs.Prelude.{ℕ, ◌+◌, ◌≤◌, Bool, true, false, List, [], ◌∷◌, ◌≡◌, length, set}
+use Rattle.std.specs.Prelude.{ℕ, ◌+◌, ◌≤◌, Bool, true, false, List, [], ◌∷◌, ◌≡◌, refl, length, set}
 use Rattle.std.proofs.Common.{sym, ◌∙◌, ap, subst, arith}
 use Rattle.words.specs.Lists.{splice}
 use Rattle.words.specs.SpliceLaws.{set-five}
@@ -9,10 +9,11 @@ use Rattle.tables.specs.Layout.{size, size_of}
 use Rattle.tables.specs.Sound.{sound}
 use Rattle.tables.proofs.MeaningLaws.{sound-means}
 use Rattle.tables.proofs.ViewLaws.{length-view}
+use Rattle.views.specs.declared.Store.{Store}
 use Rattle.rules.specs.Step.{Step, Answer, refused, answer_words}
 use Rattle.rules.specs.Calls.{written, StepPromise}
 use Rattle.rules.proofs.CallLaws.{step-unsound, step-means}
-use Rattle.kinds.specs.Obeys.{Held}
+use Rattle.kinds.specs.Obeys.{Held, Sound}
 use Rattle.applying.specs.Asked.{Applied}
 use Rattle.steps.specs.Taken.{Taken}
 
@@ -33,21 +34,25 @@ module _ (t : List ℕ) {passed : Bool} (so : passed ≡ sound t) where
       record { answer_is = answer ∙ sym (ap (λ w. w.answer) e); table_is = sym (ap (λ w. w.table) e) }
 
 -- What is applied to a sound table is the step.
-pub step-promised : {z : Size} {t left : List ℕ} {x : Step} {r : Answer} → Held z t → Applied z t x r left → StepPromise t x r left
+pub step-promised : {s left : Store} {x : Step} {r : Answer} → Sound s → Applied s x r left → StepPromise s.words.now x r left.words.now
 unfolding written
-step-promised {x = x} held applied =
+step-promised {x = x} sound applied =
     record {
-      answer_is = applied.answer_is ∙ sym (ap (λ w. w.answer) (step-means held x));
-      table_is = applied.table_is ∙ sym (ap (λ w. w.table) (step-means held x));
+      answer_is = applied.comes.came.answer_is ∙ sym (ap (λ w. w.answer) (step-means sound x));
+      table_is = applied.comes.came.table_is ∙ sym (ap (λ w. w.table) (step-means sound x));
     }
 
--- A step whose answer is stored word by word.
+-- A step whose answer's words are put at their place.
+pub step-put : {t left written : List ℕ} {x : Step} (r : Answer) {words : List ℕ} (at : ℕ) (answers : List ℕ) → written ≡ splice at 5 answers words → words ≡ answer_words (r ∷ []) → StepPromise t x r left
+    → Taken t x at answers left written
+step-put r at answers put spelled promise =
+    record {
+      table_is = promise.table_is;
+      answers_are = put ∙ ap (splice at 5 answers) (spelled ∙ ap (λ q. answer_words (q ∷ [])) promise.answer_is);
+    }
+
+-- One whose answer is stored word by word.
 pub step-taken : {t left : List ℕ} {x : Step} (r : Answer) (at : ℕ) (answers : List ℕ) → at + 5 ≤ length answers → StepPromise t x r left
     → Taken t x at answers left (set (set (set (set (set answers at r.code) (at + 1) r.server) (at + 2) r.origin) (at + 3) r.clock) (at + 4) r.value)
 unfolding answer_words
-step-taken r at answers fits promise =
-    record {
-      table_is = promise.table_is;
-      answers_are =
-          set-five answers at r.code r.server r.origin r.clock r.value fits ∙ ap (λ q. splice at 5 answers (answer_words (q ∷ []))) promise.answer_is;
-    }
+step-taken r at answers fits promise = step-put r at answers (set-five answers at r.code r.server r.origin r.clock r.value fits) refl promise

@@ -1,6 +1,8 @@
 -- A run takes its steps one after another: one step more of a list of words, and what it adds to the answers. Assumes nothing.
 use Rattle.std.specs.Prelude.{ℕ, zero, suc, ◌+◌, ◌*◌, ◌≤◌, ◌<◌, ◌%◌, false, ◌&&◌, ◌≡◌, refl, length, get_or, List, [], ◌∷◌, ◌++◌}
-use Rattle.std.proofs.Math.Path.{sym, ap}
+use Rattle.std.proofs.Math.Path.{sym, ap, subst}
+use Rattle.std.specs.Simd.{first_chunks}
+use Rattle.applying.specs.Asked.{step_in}
 use Rattle.std.proofs.Common.{◌∙◌, ap₂, add-one, arith, eq-eqb, ne_eqb, length-drop, take-append-drop, drop-drop, get_or-drop, length-take-le, append-nil, append_assoc}
 use Rattle.std.proofs.Math.Dec.{eqb}
 use Rattle.std.proofs.Math.ListN.{take, drop, drop_of_length-le}
@@ -32,6 +34,23 @@ step-behind ws at =
       c = word-behind ws at 3 e;
       d = word-behind ws at 4 e;
     }
+
+-- The step in front, as five words.
+step-take : (ws : List ℕ) → step_in (take 5 ws) ≡ step_at ws 0
+step-take [] = refl
+step-take (k ∷ []) = refl
+step-take (k ∷ a ∷ []) = refl
+step-take (k ∷ a ∷ b ∷ []) = refl
+step-take (k ∷ a ∷ b ∷ c ∷ []) = refl
+step-take (k ∷ a ∷ b ∷ c ∷ d ∷ ws) = refl
+
+-- Each step, as the words come by fives.
+pub step-lent : (n i : ℕ) (ws : List ℕ) → i < n → step_in (get_or (first_chunks 5 n ws) i []) ≡ step_at ws (i * 5)
+step-lent zero i ws h = absurd (omega arith)
+step-lent (suc n) zero ws h = step-take ws
+step-lent (suc n) (suc i) ws h =
+    let e : suc i * 5 ≡ 5 + i * 5 = omega arith in
+    step-lent n i (drop 5 ws) (omega arith) ∙ sym (ap (step_at ws) e ∙ step-behind ws (i * 5))
 
 -- One step more.
 pub take_steps : (i : ℕ) (ws : List ℕ) → i * 5 + 5 ≤ length ws → take (suc i) (steps_of ws) ≡ take i (steps_of ws) ++ (step_at ws (i * 5) ∷ [])
@@ -105,9 +124,10 @@ module _ (t steps answers : List ℕ) (n : ℕ) (whole : length steps ≡ n * 5)
       ∙ ap₂ (λ (a b : List ℕ). a ++ b) (sym (answer_words-append _ (r ∷ []))) (drop-drop 5 (i * 5) answers ∙ ap (λ k. drop k answers) e)))
 
   -- One step more.
-  pub walking_on : (i : ℕ) → i < n → {left written left' written' : List ℕ} → Walking t steps answers i left written → Taken left (step_at steps (i * 5)) (i * 5) written left' written'
+  pub walking_on : (i : ℕ) → i < n → {x : Step} {left written left' written' : List ℕ} → x ≡ step_at steps (i * 5) → Walking t steps answers i left written → Taken left x (i * 5) written left' written'
       → Walking t steps answers (i + 1) left' written'
-  walking_on i l {left} so taken =
+  walking_on i l {left = left} {written = written} {left' = left'} {written' = written'} read so took =
+      let taken = subst (λ (y : Step). Taken left y (i * 5) written left' written') read took in
       record {
         table_is = taken.table_is ∙ sym (ap (λ w. w.table) (walk_more i l left so.table_is));
         answers_are =

@@ -1,65 +1,61 @@
 // The delivered calls: one step and a run of steps on a table in lent words. Making a table is `tables::making::make`. None asks
-// anything of its caller. What each answers and writes is defined in crates/rules/specs/Calls.antt.
+// anything of its caller. Table, steps and answers are lent as slices of words, as 01 has them. What each answers and writes is
+// defined in crates/rules/specs/Calls.antt.
 #![tactic(auto)]
 
-ghost use Rattle.std.specs.Prelude.{◌≡◌, ◌+◌, ◌*◌, ◌≤◌, length};
+ghost use Rattle.std.specs.Prelude.{◌+◌, ◌*◌, ◌≤◌, length};
 ghost use Rattle.rules.specs.Calls.{StepPromise, RunPromise};
+ghost use Rattle.tables.specs.Refused.{code_in};
 ghost use Rattle.kinds.specs.Obeys.{answer_of};
-ghost use Rattle.steps.specs.Taken.{step_at, Taken};
+ghost use Rattle.applying.specs.Asked.{step_of, step_in};
+ghost use Rattle.steps.specs.Taken.{Taken};
 
 use applying::StepWords;
 use kinds::Answer;
 use tables::Table;
+use tables::refusal::Refusal;
+use views::Store;
 
-// One step on any table. Answers its code, and beside 0 the server, origin, clock and value; a refused step leaves every word of
-// the table.
-pub fn step(t: &mut [u32], kind: u32, a: u32, b: u32, c: u32, d: u32) -> Answer
+// A step on any table. A table that is not sound is refused as `Unsound`, and keeps every word.
+fn obey(t: &mut [u32], x: StepWords) -> Result<Answer, Refusal>
+    ensures { StepPromise t.old (step_of x) (answer_of result) t.new }
+{
+    if !soundness::sound(t) {
+        return Err(Refusal::Unsound);
+    }
+    let sizes = Table::new(t[0], t[1], t[2]);
+    let mut store = Store { words: t, sizes };
+    applying::apply(&mut store, x)
+}
+
+// One step on any table. Answers its server, origin, clock and value; or why it is refused, and then every word of the table is as it
+// was. Five numbers, as 01 has a single step.
+pub fn step(t: &mut [u32], kind: u32, a: u32, b: u32, c: u32, d: u32) -> Result<Answer, Refusal>
     ensures { StepPromise t.old (record { kind = kind; a = a; b = b; c = c; d = d }) (answer_of result) t.new }
 {
-    if soundness::sound(t) {
-        let z = Table::new(t[0], t[1], t[2]);
-        return applying::apply(t, z, StepWords { kind, a, b, c, d });
-    }
-    Answer::refusal(1)
+    obey(t, StepWords { kind, a, b, c, d })
 }
 
-// The step whose five words stand at place i of the list, its answer put at the same place.
-fn take_step(t: &mut [u32], steps: &[u32], i: usize, answers: &mut [u32])
-    requires { (i * 5 + 5 ≤ length steps.now) × (i * 5 + 5 ≤ length answers.old) }
-    ensures { Taken t.old (step_at steps.now (i * 5)) (i * 5) answers.old t.new answers.new }
+// Takes a step, and puts the five words of its answer at place i of the buffer.
+fn take_step(t: &mut [u32], step: StepWords, i: usize, answers: &mut [u32])
+    requires { i * 5 + 5 ≤ length answers.old }
+    ensures { Taken t.old (step_of step) (i * 5) answers.old t.new answers.new }
 {
-    let at = i * 5;
-    let r = step(
-        t,
-        steps[at],
-        steps[at + 1],
-        steps[at + 2],
-        steps[at + 3],
-        steps[at + 4],
-    );
-    answers[at] = r.code;
-    answers[at + 1] = r.server;
-    answers[at + 2] = r.origin;
-    answers[at + 3] = r.clock;
-    answers[at + 4] = r.value;
+    let answer = kinds::words(obey(t, step));
+    words::put(answers, i, &answer);
 }
 
-// A list of steps, one after another, five words each, and as many words of answers. Answers 0, also where steps were refused; or
-// 8 if a length does not fit, and then nothing is written.
-pub fn run(t: &mut [u32], steps: &[u32], answers: &mut [u32]) -> u32
-    ensures { RunPromise t.old steps.now answers.old result t.new answers.new }
+// A list of steps, one after another, five words each, and as many words of answers. Done also where steps are refused; refused as
+// `Length` if a length does not fit, and then nothing is written.
+pub fn run(t: &mut [u32], steps: &[u32], answers: &mut [u32]) -> Result<(), Refusal>
+    ensures { RunPromise t.old steps.now answers.old (code_in result) t.new answers.new }
 {
-    if steps.len() != answers.len() {
-        return 8;
+    if steps.len() != answers.len() || steps.len() % 5 != 0 {
+        return Err(Refusal::Length);
     }
-    if steps.len() % 5 != 0 {
-        return 8;
+    // The answers are put by their places: of what is written through `as_chunks_mut`, a proof learns nothing.
+    for (i, words) in steps.as_chunks::<5>().0.iter().enumerate() {
+        take_step(t, StepWords::from(*words), i, answers);
     }
-    let count = steps.len() / 5;
-    let mut i = 0;
-    while i < count {
-        take_step(t, steps, i, answers);
-        i += 1;
-    }
-    0
+    Ok(())
 }

@@ -2,6 +2,7 @@ pub mod Size
 pub mod SizeLaws
 pub mod State
 pub mod Layout
+pub mod Refused
 pub mod Shape
 pub mod Sound
 pub mod Make

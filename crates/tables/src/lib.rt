@@ -8,8 +8,10 @@ ghost use Rattle.tables.specs.Layout.{vector_at, count_at, log_at, slot_at, read
 ghost use Rattle.tables.specs.Shape.{shape, Offset};
 
 pub mod making;
+pub mod refusal;
 
-// N servers, L places in each log and P session slots. The table's words are lent beside it.
+// N servers, L places in each log and P session slots. The table's words are lent beside it. `new` answers a table of any sizes, and may
+// not fail, so each offset asks that the limits hold; `View` and `Store` hold that they do.
 #[derive(Clone, Copy)]
 pub struct Table {
     pub n: usize,
@@ -41,25 +43,13 @@ impl Table {
     }
 
     // Are the sizes within the limits?
+    #[tactic(auto, unfolding(crate::specs::Size::within))]
     pub fn is_within(self) -> bool
         ensures { result ≡ within (shape self) }
     {
-        if self.n < 1 {
-            return false;
-        }
-        if Table::SERVERS < self.n {
-            return false;
-        }
-        if self.l < 1 {
-            return false;
-        }
-        if Table::PLACES < self.l {
-            return false;
-        }
-        if self.p < 1 {
-            return false;
-        }
-        self.p <= Table::SLOTS
+        (1..=Table::SERVERS).contains(&self.n)
+            && (1..=Table::PLACES).contains(&self.l)
+            && (1..=Table::SLOTS).contains(&self.p)
     }
 
     // How many words there are.

@@ -1,88 +1,53 @@
 // Playing a list of steps on a table: one after another, with what each one changed, or as a run.
-use crate::show;
+// A case's name, table and list are lent one by one: each call would make a struct of them, and each function take it apart.
+use crate::show::{self, Words};
 use std::io;
+use tables::refusal;
 
-// What became of the table in a step with this code.
-fn outcome(rt: &impl Print, code: u32, before: &[u32], after: &[u32]) -> io::Result<()> {
-    if code == 0 {
-        show::left(rt, before, after)
-    } else {
-        show::kept(rt, before, after)
-    }
-}
-
-// One step: its words, its answer, and what became of the table, which has at most 64 words.
-fn step(rt: &impl Print, name: &[u8], t: &mut [u32], x: [u32; 5]) -> io::Result<()> {
+// One step: its words, its answer, and what became of the table, which has at most 64 words: there is no heap for a copy of any length.
+fn step(rt: &impl Print, name: &str, t: &mut [u32], x: [u32; 5]) -> io::Result<()> {
     let n = t.len();
     if 64 < n {
-        return show::text(rt, b"no room\n");
+        return println!(rt; "no room");
     }
     let mut before = [0u32; 64];
     words::copy(t, &mut before);
-    let r = steps::step(t, x[0], x[1], x[2], x[3], x[4]);
-    let code = r.code;
-    show::text(rt, name)?;
-    show::text(rt, b":")?;
-    show::numbers(rt, &x)?;
-    show::text(rt, b" ->")?;
-    show::answer(rt, r)?;
-    outcome(rt, code, &before[0..n], t)
+    let [kind, a, b, c, d] = x;
+    let outcome = steps::step(t, kind, a, b, c, d);
+    print!(rt; "{name}:{} ->{}", Words(&x), Words(&kinds::words(outcome)))?;
+    match outcome {
+        Ok(_) => show::left(rt, &before[..n], t),
+        Err(_) => show::kept(rt, &before[..n], t),
+    }
 }
 
 // The steps of a list, one after another.
-pub fn play(rt: &impl Print, name: &[u8], t: &mut [u32], list: &[[u32; 5]]) -> io::Result<()> {
+pub fn play(rt: &impl Print, name: &str, t: &mut [u32], list: &[[u32; 5]]) -> io::Result<()> {
     for x in list {
         step(rt, name, t, *x)?;
     }
     Ok(())
 }
 
-// The code of a step.
-fn code(rt: &impl Print, t: &mut [u32], x: [u32; 5]) -> io::Result<()> {
-    let r = steps::step(t, x[0], x[1], x[2], x[3], x[4]);
-    show::number(rt, r.code)
-}
-
 // The codes of the steps of a list.
 pub fn codes(rt: &impl Print, t: &mut [u32], list: &[[u32; 5]]) -> io::Result<()> {
-    for x in list {
-        code(rt, t, *x)?;
+    for &[kind, a, b, c, d] in list {
+        let [code, ..] = kinds::words(steps::step(t, kind, a, b, c, d));
+        print!(rt; " {code}")?;
     }
     Ok(())
 }
 
-// A step's five words, at a place of a script.
-fn put_step(script: &mut [u32], at: usize, x: [u32; 5]) {
-    if at < script.len() {
-        if 5 <= script.len() - at {
-            words::copy(&x, &mut script[at..at + 5]);
-        }
-    }
-}
-
-// The words of the steps of a list.
-pub fn put_steps(script: &mut [u32], list: &[[u32; 5]]) {
-    for i in 0..list.len() {
-        put_step(script, i * 5, list[i]);
-    }
-}
-
-// A script as one run: its code, its answers and every word of the table.
+// A list as one run: its code, its answers and every word of the table.
 pub fn run(
     rt: &impl Print,
-    name: &[u8],
+    name: &str,
     t: &mut [u32],
-    script: &[u32],
+    list: &[[u32; 5]],
     answers: &mut [u32],
 ) -> io::Result<()> {
-    let code = steps::run(t, script, answers);
-    show::text(rt, name)?;
-    show::text(rt, b", run:")?;
-    show::number(rt, code)?;
-    show::text(rt, b"\n")?;
+    let code = refusal::code(steps::run(t, list.as_flattened(), answers));
+    println!(rt; "{name}, run: {code}")?;
     show::answers(rt, name, answers)?;
-    show::text(rt, name)?;
-    show::text(rt, b", table:")?;
-    show::numbers(rt, t)?;
-    show::text(rt, b"\n")
+    println!(rt; "{name}, table:{}", Words(t))
 }

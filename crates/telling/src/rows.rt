@@ -1,7 +1,6 @@
 // The ten rows of 01's table, and the table that they leave.
-ghost use Rattle.std.specs.Prelude.{◌≡◌, length};
-
-use crate::play;
+ghost use Rattle.std.specs.Prelude.{◌≡◌, length, replicate};
+ghost use Rattle.tables.specs.Make.{making};
 
 pub const TEN_ROWS: [[u32; 5]; 10] = [
     [1, 0, 1, 0, 0], // o 0 1
@@ -25,11 +24,18 @@ pub const TEN_ROWS: [[u32; 5]; 10] = [
 pub fn after_ten_rows() -> [u32; 54]
     ensures { 54 ≡ length result }
 {
-    let mut t = [0u32; 54];
-    let mut script = [0u32; 50];
+    let mut t = fresh(2, 4, 2);
     let mut answers = [0u32; 50];
-    tables::making::make(2, 4, 2, &mut t);
-    play::put_steps(&mut script, &TEN_ROWS);
-    steps::run(&mut t, &script, &mut answers);
+    // As many answers as words of steps, so no length is refused.
+    let _ = steps::run(&mut t, TEN_ROWS.as_flattened(), &mut answers);
+    t
+}
+
+// A fresh table of these sizes where they ask for just so many words, else zeros.
+pub fn fresh<const WORDS: usize>(n: u32, l: u32, p: u32) -> [u32; WORDS]
+    ensures { result ≡ (making (record { n = n; l = l; p = p }) (replicate WORDS 0)).buffer }
+{
+    let mut t = [0u32; WORDS];
+    let _ = tables::making::make(n, l, p, &mut t);
     t
 }

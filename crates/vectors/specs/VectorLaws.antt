@@ -1,8 +1,12 @@
 -- What holds of version vectors: of dominance, of the join, and of the greatest component. Assumes nothing.
-use Rattle.std.specs.Prelude.{true, false, List, ◌⊎◌, ◌≡◌, refl, leb, length, set, ℕ, zero, suc, max, ◌+◌, ◌<◌, ◌≤◌}
+use Rattle.std.specs.Prelude.{Bool, ◌&&◌, true, false, List, [], ◌∷◌, ◌⊎◌, ◌≡◌, refl, leb, length, set, ℕ, zero, suc, max, ◌+◌, ◌<◌, ◌≤◌}
 use Rattle.std.proofs.Common.{inl, inr, ⊎_elim, sym, ◌∙◌, ap, add-one, leb-true, le-leb, arith}
 use Rattle.std.proofs.Math.Path.{ap₂}
 use native.Mathlib.Omega.{max_cases}
+use Rattle.std.specs.List.{list_all, zip, fold, reduce}
+use Rattle.std.specs.Option.{unwrap_or}
+use Rattle.std.proofs.Math.Bool.{and_assoc}
+use Rattle.words.specs.Tests.{all}
 use Rattle.words.specs.Lists.{row}
 use Rattle.words.specs.RowLaws.{below_suc, length-row, get_or-row, row-cong, filled, get_or-filled, filled_more}
 use Rattle.words.specs.TestLaws.{not-true-false, all-at, all-make, all-cong}
@@ -18,16 +22,36 @@ pub dominates-make : (n : ℕ) (v w : ℕ → ℕ) → ((j : ℕ) → j < n → 
 unfolding dominates
 dominates-make n v w h = all-make n (λ j. leb (w j) (v j)) (λ j l. le-leb (w j) (v j) (h j l))
 
--- One component that is less is enough to fail.
-pub dominates-fails : (n : ℕ) (v w : ℕ → ℕ) (j : ℕ) → j < n → v j < w j → dominates n v w ≡ false
-dominates-fails n v w j l less = not-true-false (dominates n v w) (λ h. omega (arith, dominates-at n v w h j l))
-
 -- Dominance depends on the first n components only.
 pub dominates-cong : (n : ℕ) (v v' w w' : ℕ → ℕ) → ((j : ℕ) → j < n → v j ≡ v' j) → ((j : ℕ) → j < n → w j ≡ w' j)
     → dominates n v w ≡ dominates n v' w'
 unfolding dominates
 dominates-cong n v v' w w' p q =
     all-cong n (λ j. leb (w j) (v j)) (λ j. leb (w' j) (v' j)) (λ j l. ap₂ leb (q j l) (p j l))
+
+-- One component that is less is enough to fail.
+pub dominates-fails : (n : ℕ) (v w : ℕ → ℕ) (j : ℕ) → j < n → v j < w j → dominates n v w ≡ false
+dominates-fails n v w j l less = not-true-false (dominates n v w) (λ h. omega (arith, dominates-at n v w h j l))
+
+-- Component 0 first, then the others.
+all-front : (n : ℕ) (passes : ℕ → Bool) → all (suc n) passes ≡ (passes 0 && all n (λ k. passes (suc k)))
+unfolding all
+all-front zero passes = either-end (passes 0)
+  where
+    either-end : (t : Bool) → t ≡ (t && true)
+    either-end true = refl
+    either-end false = refl
+all-front (suc n) passes = ap (λ t. t && passes (suc n)) (all-front n passes) ∙ and_assoc (passes 0) _ _
+
+-- Two slices of one length, tested pair by pair.
+pub dominates-pairs : (xs ys : List ℕ) → length xs ≡ length ys
+    → list_all (λ (p : ℕ × ℕ). leb p.1 p.0) (zip xs ys) ≡ dominates (length xs) (vector_of xs) (vector_of ys)
+unfolding dominates all
+dominates-pairs [] ys h = refl
+dominates-pairs (x ∷ xs) [] h = absurd (omega (arith, h))
+dominates-pairs (x ∷ xs) (y ∷ ys) h =
+    ap (λ t. leb y x && t) (dominates-pairs xs ys (omega (arith, h)))
+    ∙ sym (all-front (length xs) (λ j. leb (vector_of (y ∷ ys) j) (vector_of (x ∷ xs) j)))
 
 -- ---- the join
 
@@ -54,10 +78,28 @@ join_more xs ys n l so turn =
 
 -- ---- the greatest component
 
--- One component more, as a loop takes it in.
+-- One component more.
 pub greatest-more : (n : ℕ) (v : ℕ → ℕ) {most next : ℕ} → most ≡ greatest n v → next ≡ max most (v n) → next ≡ greatest (n + 1) v
 unfolding greatest
 greatest-more n v so turn = rw add-one (turn ∙ ap (λ m. max m (v n)) so)
+
+-- Component 0 first, then the others.
+greatest-front : (n : ℕ) (v : ℕ → ℕ) → greatest (suc n) v ≡ max (v 0) (greatest n (λ k. v (suc k)))
+unfolding greatest
+greatest-front zero v = omega arith
+greatest-front (suc n) v = omega (arith, greatest-front n v)
+
+-- The greatest of a slice's words and one more.
+greatest-fold : (m : ℕ) (xs : List ℕ) → fold max m xs ≡ max m (greatest (length xs) (vector_of xs))
+unfolding greatest
+greatest-fold m [] = omega arith
+greatest-fold m (x ∷ xs) = omega (arith, greatest-fold (max m x) xs, greatest-front (length xs) (vector_of (x ∷ xs)))
+
+-- The greatest of a slice's words, and 0 where it has none.
+pub greatest-most : (xs : List ℕ) → unwrap_or (reduce max xs) 0 ≡ greatest (length xs) (vector_of xs)
+unfolding greatest
+greatest-most [] = refl
+greatest-most (x ∷ xs) = greatest-fold x xs ∙ sym (greatest-front (length xs) (vector_of (x ∷ xs)))
 
 pub greatest-above : (n : ℕ) (v : ℕ → ℕ) (j : ℕ) → j < n → v j ≤ greatest n v
 unfolding greatest

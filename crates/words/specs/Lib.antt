@@ -12,3 +12,4 @@ pub mod SetLaws
 pub mod SpliceLaws
 pub mod SpanLaws
 pub mod LentLaws
+pub mod RangeLaws

@@ -56,6 +56,23 @@ pub and_both : (a b : Bool) → a ≡ true → b ≡ true → (a && b) ≡ true
 and_both true b p q = q
 and_both false b p q = p
 
+-- The first of two tests leaves the answer to the second, or it does not.
+pub and_on : (a b : Bool) → a ≡ true → b ≡ (a && b)
+and_on true b e = refl
+and_on false b e = true-not-false e refl
+
+pub and_off : (a b : Bool) → a ≡ false → false ≡ (a && b)
+and_off true b e = true-not-false refl e
+and_off false b e = refl
+
+pub and_true : (a : Bool) → (a && true) ≡ a
+and_true true = refl
+and_true false = refl
+
+pub and_three : (a b c : Bool) → ((a && b) && c) ≡ (a && (b && c))
+and_three true b c = refl
+and_three false b c = refl
+
 pub or_cases : (a b : Bool) → (a || b) ≡ true → (a ≡ true) ⊎ (b ≡ true)
 or_cases true b e = inl refl
 or_cases false b e = inr e

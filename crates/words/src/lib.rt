@@ -1,32 +1,23 @@
-// Words in lent slices, whatever they mean: set to zero, tested for zero, copied.
+// Words in lent slices, whatever they mean: set to zero, tested for zero, copied, put at a place.
 #![tactic(auto)]
 
-ghost use Rattle.std.specs.Prelude.{◌≡◌, ◌++◌, ◌≤◌, length, replicate, drop};
+ghost use Rattle.std.specs.Prelude.{◌≡◌, ◌++◌, ◌+◌, ◌*◌, ◌≤◌, length, replicate, drop};
+ghost use Rattle.words.specs.Lists.{splice};
 ghost use Rattle.words.specs.Tests.{zeros};
 
 // Sets every word to 0.
 pub fn clear(a: &mut [u32])
     ensures { a.new ≡ replicate (length a.old) 0 }
 {
-    let mut i = 0;
-    while i < a.len() {
-        a[i] = 0;
-        i += 1;
-    }
+    a.fill(0);
 }
 
 // Is every word 0?
 pub fn all_zero(a: &[u32]) -> bool
     ensures { result ≡ zeros a.now }
 {
-    let mut k = 0;
-    while k < a.len() {
-        if a[k] != 0 {
-            return false;
-        }
-        k += 1;
-    }
-    true
+    // `all` would take the words one by one: the check of an empty table then takes three times as long.
+    a.iter().fold(0, |bits, word| bits | word) == 0
 }
 
 // Copies all words of b to the front of a.
@@ -34,9 +25,14 @@ pub fn copy(b: &[u32], a: &mut [u32])
     requires { length b.now ≤ length a.old }
     ensures { a.new ≡ b.now ++ drop (length b.now) a.old }
 {
-    let mut j = 0;
-    while j < b.len() {
-        a[j] = b[j];
-        j += 1;
-    }
+    a[..b.len()].copy_from_slice(b);
+}
+
+// Puts a block of N words at place i of a list of such blocks.
+pub fn put<const N: usize>(a: &mut [u32], i: usize, block: &[u32; N])
+    requires { i * N + N ≤ length a.old }
+    ensures { a.new ≡ splice (i * N) N a.old block.now }
+{
+    let at = i * N;
+    a[at..at + N].copy_from_slice(block);
 }

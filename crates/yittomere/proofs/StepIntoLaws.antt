@@ -6,6 +6,7 @@ use Rattle.std.proofs.Math.Path.{sym, ap}
 use Rattle.std.proofs.lemmas.Bool.{eqb-false}
 use Rattle.std.proofs.Math.ListN.{get_or}
 use Rattle.words.specs.SetLaws.{splice_all}
+use Rattle.words.specs.SpliceLaws.{set-five}
 use Rattle.words.specs.TestLaws.{cond-true, cond-false, either, and_both, not-true-false, and_left}
 use Rattle.rules.specs.Step.{Step, step_words, Answer, answer_words}
 use Rattle.rules.specs.Calls.{step, Walked, walk, lengths_fit, run, StepPromise}
@@ -13,7 +14,6 @@ use Rattle.rules.specs.CallLaws.{Refusal}
 use Rattle.rules.proofs.CallLaws.{walk-one, step-refused}
 use Rattle.rules.proofs.RunLaws.{run_fits, run-misfits, steps_of-step_words}
 use Rattle.rules.proofs.Exact.{given-exactly}
-use Rattle.steps.specs.StepLaws.{step-taken}
 use Rattle.yittomere.specs.StepInto.{step_into, StepIntoPromise}
 
 module _ (t : List ℕ) (x : Step) (buffer : List ℕ) where
@@ -93,17 +93,25 @@ module _ (t : List ℕ) (x : Step) (buffer : List ℕ) where
       let e = sym (step_into-misfits h) in
       record { code_is = ap (λ r. r.code) e; table_is = ap (λ r. r.table) e; answer_is = ap (λ r. r.answers) e }
 
+  -- or the answer's words stored, the first of them returned.
+  pub step_into-put : length buffer ≡ 5 → (r : Answer) → {left words : List ℕ} → StepPromise t x r left → words ≡ answer_words (r ∷ [])
+      → StepIntoPromise t x buffer (get_or words 0 0) left words
+  unfolding answer_words
+  step_into-put h r promise stored =
+      let e = sym (step_into-fits h) in
+      record {
+        code_is = ap (λ ws. get_or ws 0 0) stored ∙ ap (λ q. q.code) promise.answer_is ∙ ap (λ q. q.code) e;
+        table_is = promise.table_is ∙ ap (λ q. q.table) e;
+        answer_is = stored ∙ (ap (λ a. answer_words (a ∷ [])) promise.answer_is ∙ ap (λ q. q.answers) e);
+      }
+
   -- or the answer stored word by word.
   pub step_into-stored : length buffer ≡ 5 → (r : Answer) → {left : List ℕ} → StepPromise t x r left
       → StepIntoPromise t x buffer r.code left (set (set (set (set (set buffer 0 r.code) 1 r.server) 2 r.origin) 3 r.clock) 4 r.value)
+  unfolding answer_words
   step_into-stored h r promise =
-      let e = sym (step_into-fits h) in
-      let taken = step-taken r 0 buffer (omega arith) promise in
-      record {
-        code_is = ap (λ q. q.code) promise.answer_is ∙ ap (λ q. q.code) e;
-        table_is = promise.table_is ∙ ap (λ q. q.table) e;
-        answer_is = taken.answers_are ∙ (splice_all buffer 5 _ h ∙ ap (λ q. q.answers) e);
-      }
+      let stored = set-five buffer 0 r.code r.server r.origin r.clock r.value (omega arith) ∙ splice_all buffer 5 _ h in
+      rw stored (step_into-put h r promise refl)
 
 -- Two results that the promise allows are equal.
 pub step_into-settled : (t : List ℕ) (x : Step) (buffer : List ℕ) (c₁ c₂ : ℕ) (l₁ l₂ w₁ w₂ : List ℕ) → StepIntoPromise t x buffer c₁ l₁ w₁ → StepIntoPromise t x buffer c₂ l₂ w₂

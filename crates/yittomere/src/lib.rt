@@ -7,13 +7,15 @@ ghost use Rattle.tables.specs.Make.{MakePromise};
 ghost use Rattle.rules.specs.Calls.{RunPromise};
 ghost use Rattle.yittomere.specs.StepInto.{StepIntoPromise};
 
+use tables::refusal::{self, Refusal};
+
 // Makes a fresh table in the lent words. Answers 0; or 2 if a number is out of its limits, or 8 if there are not exactly as many
 // words as the table has, and then every word is kept.
 #[unsafe(no_mangle)]
 pub extern "C" fn yittomere_make(table: &mut [u32], servers: u32, places: u32, slots: u32) -> u32
     ensures { MakePromise (record { n = servers; l = places; p = slots }) table.old result table.new }
 {
-    tables::making::make(servers, places, slots, table)
+    refusal::code(tables::making::make(servers, places, slots, table))
 }
 
 // One step on any table, its answer put into a buffer of five words. Answers the code, which is also the first of them; or 8 if
@@ -31,15 +33,11 @@ pub extern "C" fn yittomere_step(
     ensures { StepIntoPromise table.old (record { kind = kind; a = a; b = b; c = c; d = d }) answer.old result table.new answer.new }
 {
     if answer.len() != 5 {
-        return 8;
+        return u32::from(Refusal::Length);
     }
-    let r = steps::step(table, kind, a, b, c, d);
-    answer[0] = r.code;
-    answer[1] = r.server;
-    answer[2] = r.origin;
-    answer[3] = r.clock;
-    answer[4] = r.value;
-    r.code
+    let words = kinds::words(steps::step(table, kind, a, b, c, d));
+    answer.copy_from_slice(&words);
+    words[0]
 }
 
 // A list of steps, one after another, five words each, and as many words of answers. Answers 0, also where steps were refused; or
@@ -48,5 +46,5 @@ pub extern "C" fn yittomere_step(
 pub extern "C" fn yittomere_run(table: &mut [u32], steps: &[u32], answers: &mut [u32]) -> u32
     ensures { RunPromise table.old steps.now answers.old result table.new answers.new }
 {
-    steps::run(table, steps, answers)
+    refusal::code(steps::run(table, steps, answers))
 }

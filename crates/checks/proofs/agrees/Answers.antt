@@ -1,29 +1,23 @@
-use borrow.Author.Rules.{rules}
-use Rattle.checks.specs.WalkLaws.{agree-start, agree-end, agree-past, agree-lacks, agree_same, agree-differs}
-use mathlib.Core.Path.{sym, ◌∙◌}
+-- `checks::agrees` meets its contract.
+use Rattle.std.proofs.Common.{eqb, leb, ◌&&◌, ◌∙◌, rules, tests}
+use Rattle.std.proofs.lemmas.Iterator.{YieldsList-from_slice, YieldsList-from_map_by}
+use Rattle.std.proofs.lemmas.Iterator.Consumers.{YieldsList-at, YieldsList-from_copied, YieldsList-from_filter}
+use Rattle.logs.specs.Places.{write_in}
+use Rattle.logs.specs.Stored.{write_of}
+use Rattle.logs.specs.Write.{same}
+use Rattle.checks.specs.RuleLaws.{same_from_eq, agrees-chains}
 use Rattle.checks.proofs.agrees.Goals as goal
 
-pub loop-h-init : goal.loop-h-init
-loop-h-init c = (search rules, search rules, agree-start _ _ _ _ _ _)
-
-pub returns-then-h-held : goal.returns-then-h-held
-returns-then-h-held c = agree-end _ c.next_of-e.ensures c.next_of-h.ensures c.loop-h.invariant.2 c.if-h-held.true
-
-pub returns-then-e-count : goal.returns-then-e-count
-returns-then-e-count c = sym (agree-lacks _ c.next_of-e.ensures c.next_of-h.ensures c.loop-h.invariant.2 (search rules) c.entry_at-at_home.ensures (search rules) c.if-e-count.true)
-
-pub loop-h-preserved-then-same : goal.loop-h-preserved-then-same
-loop-h-preserved-then-same c = (
-  search rules,
-  search rules,
-  agree_same _ c.next_of-e.ensures c.next_of-h.ensures c.loop-h.invariant.2 (search rules) c.entry_at-at_home.ensures (search rules) (search rules)
-      c.entry_at.ensures (sym c.same.ensures ∙ c.if-same.true),
-)
-
-pub returns-else-same : goal.returns-else-same
-returns-else-same c =
-    sym (agree-differs _ c.next_of-e.ensures c.next_of-h.ensures c.loop-h.invariant.2 (search rules) c.entry_at-at_home.ensures (search rules) (search rules)
-    c.entry_at.ensures (sym c.same.ensures ∙ c.if-same.false))
-
-pub loop-h-preserved : goal.loop-h-preserved
-loop-h-preserved c = (search rules, search rules, agree-past _ c.next_of-e.ensures c.next_of-h.ensures c.loop-h.invariant.2 (search rules) c.entry_at-at_home.ensures (search rules))
+pub returns : goal.returns
+unfolding same
+returns c =
+    let j = c.args.origin in
+    same_from_eq c.eq.result c.eq.ensures.ran
+    (YieldsList-from_filter _ (λ w. eqb w.origin j) (YieldsList-at c.filter-ours.ensures.source
+    (YieldsList-from_map_by _ write_of write_in (YieldsList-from_copied (YieldsList-from_slice c.args.log.now cc)) c.map.ensures.closure (λ x r q k. search rules)))
+    c.filter-ours.ensures.closure (λ x b q k. search (rules, tests)))
+    (YieldsList-from_filter _ (λ w. eqb w.origin j && leb w.clock c.args.c) (YieldsList-at c.filter-theirs.ensures.source
+    (YieldsList-from_map_by _ write_of write_in (YieldsList-from_copied (YieldsList-from_slice c.args.home.now cc)) c.map-2.ensures.closure (λ x r q k. search rules)))
+    c.filter-theirs.ensures.closure (λ x b q k. search (rules, tests)))
+    (λ x y. search (rules, tests))
+    ∙ agrees-chains j c.args.c _ _

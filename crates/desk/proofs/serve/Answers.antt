@@ -3,6 +3,9 @@ use Rattle.std.proofs.Common.{◌≡◌, ◌<◌, ◌≤◌, ◌⊎◌, inl, inr
 use Rattle.std.proofs.Math.Nat.{eq-or-lt_of_le}
 use Rattle.std.proofs.Math.Seq.{take-append_seam}
 use Rattle.std.specs.Io.KnownBytes.{Consumes, IsAtEnd}
+use Rattle.std.specs.Result.{result_unwrap_or}
+use Rattle.script.specs.declared.NoRoom.{NoRoom}
+use Rattle.script.specs.Promised.{count_of}
 use Rattle.desk.proofs.serve.Goals as goal
 
 -- The first bytes, of which there are n if any stand behind them.
@@ -22,11 +25,16 @@ filled (Some xs) (Some ys) (Ok u) text read within is end =
     front xs (take read text) ys (length text) is (λ less. end (omega (arith, long, less))) (eq-or-lt_of_le (omega (arith, long, within)))
 filled old new (Err e) text read within is end = tt
 
+-- How many bytes the reply has.
+counted : (r : Result ℕ NoRoom) {count : ℕ} → count ≡ result_unwrap_or r 0 → count ≡ count_of r
+counted (Ok n) e = e
+counted (Err e) f = f
+
 pub returns : goal.returns
 returns g c =
     let read = c.fill-read in
     record {
-      served = record { within = read.ensures.within; replied = c.reply-told.ensures };
+      served = record { within = read.ensures.within; replied = c.reply-replied.ensures };
       input = filled _ _ read.result.1 read.new.text read.result.0 read.ensures.within read.ensures.bytes read.ensures.end;
-      output = c.write_all-written.ensures.bytes;
+      output = rw (counted c.reply-replied.result c.unwrap_or-count.ensures) at c.write_all-written.ensures.bytes;
     }

@@ -1,15 +1,13 @@
-use mathlib.Core.Path.{sym}
-use native.Mathlib.Omega.{arith}
-use borrow.Author.Count.{below_more}
-use borrow.Author.Rules.{rules}
-use Rattle.vectors.specs.VectorLaws.{dominates-make, dominates-fails}
+-- `vectors::dominates` meets its contract: each pair passes.
+use Rattle.std.proofs.Common.{leb, rules, tests, ◌∙◌, ℕ}
+use Rattle.std.proofs.lemmas.Iterator.{YieldsList-from_slice, YieldsList-from_zip}
+use Rattle.std.proofs.lemmas.Iterator.Search.{all_from_yields_List}
+use Rattle.vectors.specs.VectorLaws.{dominates-pairs}
 use Rattle.vectors.proofs.dominates.Goals as goal
 
-pub returns-then-a-j : goal.returns-then-a-j
-returns-then-a-j c = sym (dominates-fails _ _ _ c.loop-j.j (search rules) (search rules))
-
-pub loop-j-preserved : goal.loop-j-preserved
-loop-j-preserved c = (search rules, below_more _ _ c.loop-j.invariant.1 (search rules))
-
 pub returns : goal.returns
-returns c = sym (dominates-make _ _ _ (λ k l. c.loop-j.invariant.1 k (omega arith)))
+returns c =
+    let a = c.args.a.now in
+    let b = c.args.b.now in
+    all_from_yields_List (λ (p : ℕ × ℕ). leb p.1 p.0) c.all.new.self _ c.all.result c.all.ensures.ran (YieldsList-from_zip (YieldsList-from_slice a cc) (YieldsList-from_slice b cc)) (λ x t q k. search (rules, tests))
+    ∙ dominates-pairs a b c.requires

@@ -1,14 +1,11 @@
-use mathlib.Core.Path.{refl, sym, ◌∙◌}
+use mathlib.Core.Path.{sym}
 use borrow.Author.Rules.{rules}
-use Rattle.words.specs.RowLaws.{filled_none, filled-all}
+use Rattle.words.specs.RowLaws.{filled_none}
 use Rattle.vectors.specs.VectorLaws.{join_more}
 use Rattle.vectors.proofs.raise.Goals as goal
 
 pub loop-j-init : goal.loop-j-init
-loop-j-init c = (search rules, refl, sym (filled_none _ _))
+loop-j-init c = (search rules, sym (filled_none _ _))
 
 pub loop-j-preserved : goal.loop-j-preserved
-loop-j-preserved c = (search rules, search rules, join_more c.args.a.now c.args.b.now c.loop-j.j (search rules) c.loop-j.invariant.2 c.larger.ensures)
-
-pub returns : goal.returns
-returns c = c.loop-j.invariant.2 ∙ filled-all _ _ _ (search rules)
+loop-j-preserved c = (search rules, join_more c.args.a.now c.args.b.now c.loop-j.j (search rules) c.loop-j.invariant.1 c.max.ensures)

@@ -1,6 +1,5 @@
--- `vectors::raise` meets its contract. The loop's invariant: the components passed are the join's, and the others are as they were. The
--- measure is what is left of the length.
-use Prim.Native.Nat.{◌≤◌, ◌-◌}
+-- `vectors::raise` meets its contract. The loop's invariant: the components passed are the join's, and the others are as they were.
+use Prim.Native.Nat.{◌≤◌}
 use mathlib.Core.Path.{◌≡◌}
 use lib.ListN.{length}
 use Rattle.words.specs.RowLaws.{filled}
@@ -8,7 +7,4 @@ use Rattle.vectors.specs.Vector.{vector_of, join}
 use Rattle.vectors.proofs.raise.Given as goal
 
 abbrev pub invariant-loop-j : goal.invariant-loop-j
-invariant-loop-j l = (l.j ≤ length l.initial.a) × (length l.a ≡ length l.initial.a) × (l.a ≡ filled l.j (join (vector_of l.initial.a) (vector_of l.b)) l.initial.a)
-
-abbrev pub decreases-loop-j : goal.decreases-loop-j
-decreases-loop-j l = length l.initial.a - l.j
+invariant-loop-j l = (l.j ≤ length l.fn.a) × (l.a ≡ filled l.j (join (vector_of l.fn.a) (vector_of l.b)) l.fn.a)

@@ -1,23 +1,18 @@
-use borrow.Author.Rules.{rules}
-use Rattle.filing.specs.Found.{last_of}
-use Rattle.filing.specs.FindingLaws.{last_found, last-passed, last_none}
-use mathlib.Core.Path.{refl, sym}
+-- `filing::finding::last_on` meets its contract: the first on the item, from the back.
+use Rattle.std.proofs.Common.{eqb, rules, tests}
+use Rattle.std.proofs.lemmas.Iterator.{YieldsList-from_map_by}
+use Rattle.std.proofs.lemmas.Iterator.Adapters.{YieldsList-from_rev_slice}
+use Rattle.std.proofs.lemmas.Iterator.Consumers.{YieldsList-from_copied}
+use Rattle.std.proofs.lemmas.Iterator.Search.{find_from_yields_List}
+use Rattle.logs.specs.Places.{write_in}
+use Rattle.logs.specs.Stored.{write_of}
+use Rattle.filing.specs.FindingLaws.{last_found}
 use Rattle.filing.proofs.finding.last_on.Goals as goal
 
-pub loop-e-init : goal.loop-e-init
-loop-e-init c = (search rules, refl)
-
-pub returns-then-w-item : goal.returns-then-w-item
-unfolding last_of
-returns-then-w-item c =
-    let at = c.loop-e in
-    sym (last_found _ at.e _ (search rules) c.entry_at-w.ensures at.invariant.1 c.if-w-item.true)
-
-pub loop-e-preserved : goal.loop-e-preserved
-loop-e-preserved c =
-    let at = c.loop-e in
-    (search rules, last-passed _ at.e _ (search rules) c.entry_at-w.ensures at.invariant.1 c.if-w-item.false)
-
 pub returns : goal.returns
-unfolding last_of
-returns c = sym (last_none _ c.loop-e.e _ (search rules) c.loop-e.invariant.1)
+returns c =
+    let item = c.args.item in
+    last_found item c.args.log.now c.find.result
+    (find_from_yields_List (λ w. eqb w.item item) c.find.new.self _ c.find.result c.find.ensures.ran
+    (YieldsList-from_map_by _ write_of write_in (YieldsList-from_copied (YieldsList-from_rev_slice c.args.log.now cc)) c.map.ensures.closure (λ x r q k. search rules))
+    (λ x b q k. search (rules, tests)))

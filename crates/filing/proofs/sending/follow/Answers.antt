@@ -1,30 +1,26 @@
 use borrow.Author.Rules.{rules}
+use Rattle.logs.proofs.SaidLaws.{said-origin}
 use Rattle.logs.specs.Log.{follow}
-use Rattle.logs.specs.Places.{entries}
-use Rattle.filing.specs.SendingLaws.{origin-below, follow-next}
+use Rattle.logs.specs.Stored.{write_of}
+use Rattle.filing.specs.SendingLaws.{follow-next}
 use Rattle.vectors.specs.Vector.{vector_of}
-use Rattle.words.specs.Lists.{row}
 use Rattle.words.specs.RowLaws.{row-get_or}
-use lib.ListN.{length}
-use mathlib.Core.Path.{◌≡◌, refl, sym, ◌∙◌, ap}
+use Prim.Native.Nat.{ℕ, ◌<◌}
+use mathlib.Core.Path.{◌≡◌}
+use mathlib.Core.Path.{refl, sym}
 use native.Mathlib.Omega.{arith}
 use Rattle.filing.proofs.sending.follow.Goals as goal
 
-pub loop-e-init : goal.loop-e-init
-unfolding entries follow
-loop-e-init c = (search rules, refl, sym (row-get_or _ 0 _ refl))
+pub loop-w-init : goal.loop-w-init
+unfolding follow
+loop-w-init c = (refl, sym (row-get_or _ 0 _ refl))
 
-pub bounds-vector-j : goal.bounds-vector-j
-bounds-vector-j c = omega (arith, origin-below _ _ _ _ c.requires.origins c.loop-e-test.true c.entry_at-w.ensures)
+within : {j n size : ℕ} → j < n → size ≡ n → j < size
+within h e = omega (arith, h, e)
 
-pub offset_bounds-vector-j : goal.offset_bounds-vector-j
-offset_bounds-vector-j c = omega (arith, origin-below _ _ _ _ c.requires.origins c.loop-e-test.true c.entry_at-w.ensures)
+pub bounds-vector-w : goal.bounds-vector-w
+bounds-vector-w c = within (said-origin write_of c.args.batch.now c.loop-w.w-index _ _ refl c.loop-w-test.true c.requires) c.loop-w.invariant.0
 
-pub loop-e-preserved : goal.loop-e-preserved
-loop-e-preserved c = (search rules, search rules, follow-next _ c.loop-e.e c.args.batch.now (vector_of c.args.vector.now) _ (omega (arith, origin-below _ _ _ _ c.requires.origins c.loop-e-test.true c.entry_at-w.ensures)) c.loop-e.invariant.2 c.entry_at-w.ensures)
-
-pub returns : goal.returns
-returns c =
-    let all : c.loop-e.e ≡ c.args.k = search rules in
-    c.loop-e.invariant.2
-    ∙ ap (λ n. row (length c.args.vector.now) (follow (entries n c.args.batch.now) (vector_of c.args.vector.now))) all
+pub loop-w-preserved : goal.loop-w-preserved
+loop-w-preserved c =
+    (search rules, follow-next _ c.args.batch.now c.loop-w.w-index _ (vector_of c.args.vector.now) c.loop-w-test.true c.requires c.loop-w.invariant.1)

@@ -1,45 +1,31 @@
 -- `kinds::exchanging::insert` meets its contract: the log's places and its count are those of the log with the writes in their places.
-use mathlib.Core.Path.{refl}
-use native.Mathlib.Omega.{arith}
-use borrow.Author.Rules.{rules}
-use Rattle.tables.proofs.LaidLaws.{laid}
-use Rattle.tables.proofs.ViewLaws.{within-view, length-view, count-view}
-use Rattle.kinds.specs.GrowLaws.{log-lent, log_back, writes-inserted}
+use Rattle.std.proofs.Common.{rules, refl, sym, arith}
+use Rattle.std.proofs.lemmas.List.{length-map}
+use Rattle.logs.specs.Stored.{write_of}
+use Rattle.tables.proofs.ViewLaws.{within-view}
+use Rattle.kinds.specs.SeenLaws.{count-is}
+use Rattle.kinds.specs.GrowLaws.{log-lent, writes-inserted}
 use Rattle.kinds.proofs.exchanging.insert.Goals as goal
-
-pub count-count-requires : goal.count-count-requires
-count-count-requires c = (laid c.requires.held.0, search rules)
-
-pub log_at-a-requires : goal.log_at-a-requires
-log_at-a-requires c = (within-view c.requires.held.0, search rules)
-
-pub slice_bounds-insert_all-end : goal.slice_bounds-insert_all-end
-slice_bounds-insert_all-end c = omega (arith, length-view c.requires.held.0, c.log_at-a.ensures.inside)
 
 pub insert_all-requires : goal.insert_all-requires
 insert_all-requires c =
-    let held = c.requires.held in
-    omega (arith, c.count-count.ensures, count-view held.0 _ held.1, log-lent held.0 _ held.1 c.count-count.ensures c.log_at-a.ensures.is refl)
+    let count = count-is c.requires.0 c.view.ensures.words c.view.ensures.sizes _ c.requires.1 c.count-count.ensures in
+    omega (arith, count, log-lent c.requires.0 _ c.requires.1 count c.log_at-at.ensures.is refl, c.requires.2.fit, length-map c.args.batch.now write_of)
 
-pub count_at-c-requires : goal.count_at-c-requires
-count_at-c-requires c = (within-view c.requires.held.0, search rules)
+pub overflow_add-store : goal.overflow_add-store
+overflow_add-store c =
+    let count = count-is c.requires.0 c.view.ensures.words c.view.ensures.sizes _ c.requires.1 c.count-count.ensures in
+    omega (arith, within-view c.requires.0, count, c.requires.2.fit, length-map c.args.batch.now write_of)
 
--- The count is small.
-pub overflow_add-t : goal.overflow_add-t
-overflow_add-t c =
-    omega (arith, within-view c.requires.held.0, c.count-count.ensures, count-view c.requires.held.0 _ c.requires.held.1)
-
-pub overflow_cast-t : goal.overflow_cast-t
-overflow_cast-t c =
-    omega (arith, within-view c.requires.held.0, c.count-count.ensures, count-view c.requires.held.0 _ c.requires.held.1)
-
-pub bounds-t-c : goal.bounds-t-c
-bounds-t-c c =
-    let held = c.requires.held in
-    let back = log_back held.0 _ held.1 c.count-count.ensures c.log_at-a.ensures.is refl c.insert_all.new.log c.insert_all.auto.log in
-    omega (arith, length-view held.0, c.count_at-c.ensures.inside, back)
+pub overflow_cast-store : goal.overflow_cast-store
+overflow_cast-store c =
+    let count = count-is c.requires.0 c.view.ensures.words c.view.ensures.sizes _ c.requires.1 c.count-count.ensures in
+    omega (arith, within-view c.requires.0, count, c.requires.2.fit, length-map c.args.batch.now write_of)
 
 pub returns : goal.returns
 returns c =
-    let held = c.requires.held in
-    writes-inserted held.0 _ held.1 c.count-count.ensures c.log_at-a.ensures.is refl _ _ held.3 c.requires.ascending c.insert_all.ensures c.count_at-c.ensures.is
+    let count = count-is c.requires.0 c.view.ensures.words c.view.ensures.sizes _ c.requires.1 c.count-count.ensures in
+    record {
+      kept = search rules;
+      table_is = writes-inserted c.requires.0 _ c.requires.1 count c.log_at-at.ensures.is refl c.requires.2 (sym (length-map _ _)) c.insert_all.ensures c.count_at.ensures.is;
+    }

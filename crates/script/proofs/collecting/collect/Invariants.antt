@@ -1,16 +1,18 @@
--- `script::collecting::collect` meets its contract. The loop's invariant: the reader stands at a place of the text, and so much is listed as `Walked`
--- says. Each line takes one of those that may still be listed.
-use Rattle.std.proofs.Common.{◌≡◌, ◌≤◌, length}
-use Rattle.script.proofs.WalkedLaws.{Walked}
-use Rattle.script.specs.WalkedLaws.{lines_left}
+-- `script::collecting::collect` meets its contract. The loop's invariant: the reader stands at a place of the text, and the steps before it are
+-- listed. Each turn lists one more.
+use Rattle.std.proofs.Common.{◌≡◌, ◌≤◌, ◌-◌, suc, length}
+use Rattle.tables.specs.Shape.{shape}
+use Rattle.script.specs.Reply.{most_steps}
+use Rattle.script.proofs.ListedLaws.{Listing}
 use Rattle.script.proofs.collecting.collect.Given as goal
 
-abbrev pub invariant-loop-r : goal.invariant-loop-r
-invariant-loop-r l = record {
-  same_text : l.r.text.now ≡ l.text;
+abbrev pub invariant-loop-reader : goal.invariant-loop-reader
+invariant-loop-reader l = record {
+  same_text : l.reader.text.now ≡ l.text;
+  few : l.count ≤ most_steps;
   long : 2560 ≤ length l.steps;
-  so : Walked l.text l.r.at l.listed l.steps;
+  so : Listing l.text (shape l.sizes) l.count l.steps l.reader.at;
 }
 
-abbrev pub decreases-loop-r : goal.decreases-loop-r
-decreases-loop-r l = lines_left l.listed
+abbrev pub decreases-loop-reader : goal.decreases-loop-reader
+decreases-loop-reader l = suc most_steps - l.count

@@ -4,4 +4,4 @@ use Rattle.script.proofs.messages.too_long.Goals as goal
 
 pub returns : goal.returns
 unfolding too_long
-returns c = c.put_bytes.ensures
+returns c = c.put.ensures

@@ -1,20 +1,14 @@
-use borrow.Author.Rules.{rules}
-use Rattle.soundness.specs.Shares.{slot_holds}
+-- `slots::all_hold` meets its contract: every slot is asked.
+use Rattle.std.proofs.Common.{refl, rules, tests}
+use Rattle.tables.specs.Shape.{shape}
 use Rattle.tables.specs.Sound.{rule_f}
-use Rattle.words.specs.CheckLaws.{all_none, all_more, all-fails, all_done}
-use mathlib.Core.Path.{◌∙◌, sym}
+use Rattle.words.specs.RangeLaws.{all_of_range}
+use Rattle.soundness.specs.Shares.{slot_holds}
 use Rattle.soundness.proofs.slots.all_hold.Goals as goal
-
-pub loop-k-init : goal.loop-k-init
-loop-k-init c = (search rules, all_none _)
-
-pub returns-then-not-slot_holds : goal.returns-then-not-slot_holds
-unfolding rule_f slot_holds
-returns-then-not-slot_holds c = all-fails _ _ c.loop-k.k (search rules) (sym c.slot_holds.ensures ∙ c.if-not-slot_holds.true)
-
-pub loop-k-preserved : goal.loop-k-preserved
-loop-k-preserved c = (search rules, all_more _ _ c.loop-k.invariant.1 (sym c.slot_holds.ensures ∙ c.if-not-slot_holds.false))
 
 pub returns : goal.returns
 unfolding rule_f slot_holds
-returns c = all_done _ _ c.loop-k.k (search rules) (search rules) c.loop-k.invariant.1
+returns c =
+    let z = shape c.args.view.now.sizes in
+    let t = c.args.view.now.words.now in
+    all_of_range z.p (slot_holds z t) _ _ _ c.all.ensures.ran refl (λ x b q k. search (rules, tests))

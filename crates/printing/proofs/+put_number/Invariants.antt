@@ -1,5 +1,0 @@
--- `printing::put_number` ends: each call takes the tenth of the number.
-use Rattle.printing.proofs.+put_number.Given as goal
-
-abbrev pub decreases-put_number : goal.decreases-put_number
-decreases-put_number l = l.x

@@ -1,7 +1,0 @@
--- `views::read_vector` meets its contract.
-use Rattle.words.specs.SpanLaws.{span}
-use mathlib.Core.Path.{refl}
-use Rattle.views.proofs.read_vector.Goals as goal
-
-pub returns : goal.returns
-returns c = span _ _ c.read_at-a.ensures.is refl

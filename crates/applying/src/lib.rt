@@ -33,7 +33,8 @@ impl From<[u32; 5]> for StepWords {
     }
 }
 
-// Are the arguments in range, kind by kind? A word that the kind does not use is 0.
+// Are the arguments in range, kind by kind? A word that the kind does not use is 0. `Table::new` answers any sizes, so where a reach is shifted by N
+// the limits are asked for.
 impl StepWords {
     // | open | slot, guarantees |
     #[tactic(auto, unfolding(rules::specs::Step::open_in_range))]
@@ -86,6 +87,7 @@ pub fn apply(store: &mut Store<'_>, x: StepWords) -> Result<Answer, Refusal>
 {
     let z = store.sizes;
     let StepWords { kind, a, b, c, d } = x;
+    // 01 tells a step apart by its kind word, a number of any value.
     match kind {
         1 if x.open_in_range(z) => kinds::sessions::open_slot(store, a as usize, b),
         2 if x.close_in_range(z) => kinds::sessions::close_slot(store, a as usize),

@@ -12,7 +12,7 @@ const ONE_MORE: [[u32; 5]; 7] = [
     [3, 1, 1, 2, 0], // r 1 1 2
 ];
 
-// A list as a run on one table, and one step after another on a second; both leave the same.
+// A list as a run on one table, and one step after another on a second; both leave the same. The buffers are lent as `steps::run` takes them.
 fn both_ways(
     rt: &impl Print,
     name: &str,

@@ -20,7 +20,8 @@ pub struct Answer {
     pub value: u32,
 }
 
-// An answer's five words: its code, and behind 0 what was answered. A refusal has four zeros.
+// An answer's five words: its code, and behind 0 what was answered. A refusal has four zeros. No `From`: neither `Result` nor an array is this
+// crate's.
 #[tactic(auto, unfolding(rules::specs::Step::answer_words, rules::specs::Step::refused))]
 pub fn words(outcome: Result<Answer, Refusal>) -> [u32; 5]
     ensures { result ≡ answer_words (answer_of outcome ∷ []) }

@@ -19,6 +19,7 @@ pub fn is_admissible(z: Table) -> bool
 }
 
 // Makes a fresh table of these sizes and runs a list of steps on it. The lengths fit, so neither call is refused.
+// `Table::new` answers any sizes, so the limits are asked for here. The buffers are parts, lent as `steps::run` takes them.
 fn run_fresh(z: Table, table: &mut [u32], steps: &[u32], answers: &mut [u32])
     requires within { Within (shape z) × (length table.old ≡ size (shape z)) }
     requires lengths { (length steps.now ≡ length answers.old) × (length steps.now % 5 ≡ 0) }

@@ -22,6 +22,7 @@ pub enum Fault {
 
 // The sizes of a text, and its steps, put one after another into the list, which has room for 512 of them. One reader walks the whole
 // text, line by line.
+// The list is a slice of words, as `reply` is lent it.
 pub fn collect(text: &[u8], steps: &mut [u32]) -> Result<Listed, Fault>
     requires { 2560 ≤ length steps.old }
     ensures { ListedPromise text.now result steps.new }

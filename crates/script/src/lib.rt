@@ -63,6 +63,7 @@ fn put_reply(text: &[u8], room: &mut Workspace, page: &mut Page)
 
 // Puts the reply to a text at the front of `out`, and answers how many bytes it has. Any text will do. The other buffers are room to
 // work in; what they hold before does not matter. If a buffer is shorter than the lengths above, answers `NoRoom`, and alters nothing.
+// The buffers are lent one by one: README.md and docs/ name this call, and any buffers will do.
 pub fn reply(
     text: &[u8],
     table: &mut [u32],

@@ -38,7 +38,7 @@ pub fn codes(rt: &impl Print, t: &mut [u32], list: &[[u32; 5]]) -> io::Result<()
     Ok(())
 }
 
-// A list as one run: its code, its answers and every word of the table.
+// A list as one run: its code, its answers and every word of the table. The answers are lent as `steps::run` takes them.
 pub fn run(
     rt: &impl Print,
     name: &str,

@@ -1,6 +1,6 @@
 // The calls as C has them: making a table, one step and a run on lent words. include/yittomere.h declares them and says what a C
-// programmer must know. None asks anything of the numbers and words that it is given. Crate `yittomere_c` exports them to C: a crate that others
-// see exports nothing.
+// programmer must know. None asks anything of the numbers and words that it is given. Crate `yittomere_c`
+// says them once more for the library for C, which is made from a crate that no other sees.
 #![tactic(auto)]
 
 ghost use Rattle.tables.specs.Make.{MakePromise};
@@ -19,7 +19,7 @@ pub extern "C" fn yittomere_make(table: &mut [u32], servers: u32, places: u32, s
 }
 
 // One step on any table, its answer put into a buffer of five words. Answers the code, which is also the first of them; or 8 if
-// the buffer has another length, and then no step is taken and every word is kept.
+// the buffer has another length, and then no step is taken and every word is kept. Five numbers, as include/yittomere.h has a step.
 #[unsafe(no_mangle)]
 pub extern "C" fn yittomere_step(
     table: &mut [u32],

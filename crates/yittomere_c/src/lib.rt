@@ -16,7 +16,7 @@ pub extern "C" fn yittomere_make(table: &mut [u32], servers: u32, places: u32, s
 }
 
 // One step on any table, its answer put into a buffer of five words. Answers the code, which is also the first of them; or 8 if
-// the buffer has another length, and then no step is taken and every word is kept.
+// the buffer has another length, and then no step is taken and every word is kept. Five numbers, as include/yittomere.h has a step.
 #[unsafe(no_mangle)]
 pub extern "C" fn yittomere_step(
     table: &mut [u32],

@@ -1,4 +1,5 @@
-// A log that grows: a write added at the end, and writes added each at its place. 01 wants it lent as a part of the table's words, so its count stands beside it.
+// A log that grows: a write added at the end, and writes added each at its place. 01 wants it lent as a part of the table's words, so its
+// count stands beside it.
 ghost use Rattle.std.specs.Prelude.{◌≡◌, List, [], ◌∷◌, ◌++◌, ℕ, ◌+◌, ◌*◌, ◌<◌, ◌≤◌, length, map};
 ghost use Rattle.logs.specs.Write.{Write};
 ghost use Rattle.logs.specs.Ascending.{Ascending};

@@ -5,6 +5,8 @@ use mathlib.Core.List.{List, [], ◌∷◌, ◌++◌}
 use Rattle.std.proofs.Math.Path.{refl, ap, ap₂}
 use Rattle.std.proofs.Common.{sym, ◌∙◌, subst, zero-add, suc-add, take-append-drop, drop-drop}
 use native.Mathlib.Omega.{arith}
+use Rattle.words.specs.Lists.{In, here}
+use Rattle.words.specs.ListLaws.{in_append_right}
 use Rattle.words.specs.SpliceLaws.{length-splice, take-splice, drop-splice, drop-splice-past, zeros-drop}
 use Rattle.words.specs.Tests.{zeros}
 use Rattle.logs.specs.Write.{Write}
@@ -31,6 +33,14 @@ entries-add (suc e) m ws =
 pub entries_next : (e : ℕ) (ws : List ℕ) → entries (e + 1) ws ≡ entries e ws ++ (entry (drop (e * 4) ws) ∷ [])
 unfolding entries
 entries_next e ws = entries-add e 1 ws
+
+-- A place below the count holds one of the log's writes.
+pub in-entries : (e count : ℕ) (ws : List ℕ) → e < count → In (entry (drop (e * 4) ws)) (entries count ws)
+unfolding entries
+in-entries e count ws h =
+    let more : count ≡ e + suc (count - suc e) = omega arith in
+    subst (λ (g : List Write). In (entry (drop (e * 4) ws)) g) (sym (ap (λ n. entries n ws) more ∙ entries-add e (suc (count - suc e)) ws))
+    (in_append_right (entries e ws) (here refl))
 
 -- The writes that words spell, whatever stands behind them.
 pub entries-front : (e : ℕ) (g : List Write) (rest : List ℕ) → length g ≡ e → entries e (spelled g ++ rest) ≡ g

@@ -1,6 +1,6 @@
 -- What holds of a log's words: how many there are, and that writes and words are each other's. Assumes nothing.
-use Rattle.std.specs.Prelude.{ℕ, zero, suc, ◌-◌, ◌+◌, ◌*◌, ◌≤◌, true, List, [], ◌∷◌, ◌++◌, ◌≡◌, refl, length, take, drop, replicate}
-use Rattle.std.proofs.Common.{sym, ◌∙◌, ap, ap₂, arith, length-append, length-drop, take-append-drop, drop_at, take-add}
+use Rattle.std.specs.Prelude.{ℕ, zero, suc, ◌-◌, ◌+◌, ◌*◌, ◌≤◌, true, List, [], ◌∷◌, ◌++◌, ◌≡◌, refl, length, get_or, take, drop, replicate}
+use Rattle.std.proofs.Common.{sym, ◌∙◌, ap, ap₂, arith, length-append, length-drop, take-append-drop, drop_at, take-add, get_or-drop}
 use Rattle.std.proofs.lemmas.List.{length-replicate}
 use Rattle.words.specs.Lists.{row, part}
 use Rattle.words.specs.PartLaws.{row-part}
@@ -30,6 +30,14 @@ length-entries zero ws = refl
 length-entries (suc c) ws = ap suc (length-entries c (drop width ws))
 
 -- ---- one place
+
+-- The write of a place, word by word.
+pub entry-drop : (ws : List ℕ) (a : ℕ) → record { origin = get_or ws a 0; clock = get_or ws (a + 1) 0; item = get_or ws (a + 2) 0; value = get_or ws (a + 3) 0 } ≡ entry (drop a ws)
+unfolding entry
+entry-drop ws a =
+    let at : a ≡ a + 0 = omega arith in
+    rw (get_or-drop a ws 0 0, get_or-drop a ws 1 0, get_or-drop a ws 2 0, get_or-drop a ws 3 0)
+    (ap (λ k. record { origin = get_or ws k 0; clock = get_or ws (a + 1) 0; item = get_or ws (a + 2) 0; value = get_or ws (a + 3) 0 }) at)
 
 -- ---- from writes to words and back
 

@@ -40,12 +40,22 @@ impl From<Entry> for [u32; 4] {
 }
 
 impl Entry {
+    // Clock and origin as one number: the write order is the order of these.
+    fn rank(self) -> u64
+        ensures { result ≡ self.clock * 4294967296 + self.origin }
+    {
+        u64::from(self.clock) * 4294967296 + u64::from(self.origin)
+    }
+
     // Does it come before the other in the write order?
     // No `PartialOrd`: `==` compares item and value too, which the write order leaves out.
     pub fn is_before(self, other: Entry) -> bool
         ensures { result ≡ before (write_of self) (write_of other) }
     {
-        (self.clock, self.origin) < (other.clock, other.origin)
+        // Clock and origin one by one, or as pairs, take about twice the time in the test of a full log.
+        let ours = self.rank();
+        let theirs = other.rank();
+        ours < theirs
     }
 }
 

@@ -90,7 +90,7 @@ greatest-front zero v = omega arith
 greatest-front (suc n) v = omega (arith, greatest-front n v)
 
 -- The greatest of a slice's words and one more.
-greatest-fold : (m : ℕ) (xs : List ℕ) → fold max m xs ≡ max m (greatest (length xs) (vector_of xs))
+pub greatest-fold : (m : ℕ) (xs : List ℕ) → fold max m xs ≡ max m (greatest (length xs) (vector_of xs))
 unfolding greatest
 greatest-fold m [] = omega arith
 greatest-fold m (x ∷ xs) = omega (arith, greatest-fold (max m x) xs, greatest-front (length xs) (vector_of (x ∷ xs)))

@@ -30,5 +30,5 @@ pub fn raise(a: &mut [u32], b: &[u32])
 pub fn greatest(a: &[u32]) -> u32
     ensures { result ≡ greatest (length a.now) (vector_of a.now) }
 {
-    a.iter().copied().max().unwrap_or(0)
+    a.iter().fold(0, |most, x| (*x).max(most))
 }

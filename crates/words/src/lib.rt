@@ -16,6 +16,15 @@ pub fn clear(a: &mut [u32])
 pub fn all_zero(a: &[u32]) -> bool
     ensures { result ≡ zeros a.now }
 {
+    // By blocks, so that the first one with a bit is the last one read.
+    let (blocks, rest) = a.as_chunks::<64>();
+    blocks.iter().all(|block| no_bits(block)) && no_bits(rest)
+}
+
+// Has none of these words a bit? All of them are read.
+fn no_bits(a: &[u32]) -> bool
+    ensures { result ≡ zeros a.now }
+{
     // `all` would take the words one by one: the check of an empty table then takes almost four times as long.
     a.iter().fold(0, |bits, word| bits | word) == 0
 }

@@ -8,4 +8,4 @@ pub loop-j-init : goal.loop-j-init
 loop-j-init c = (search rules, sym (filled_none _ _))
 
 pub loop-j-preserved : goal.loop-j-preserved
-loop-j-preserved c = (search rules, join_more c.args.a.now c.args.b.now c.loop-j.j (search rules) c.loop-j.invariant.1 c.max.ensures)
+loop-j-preserved c = (search rules, join_more c.args.a.now c.args.b.now c.loop-j.j (search rules) c.loop-j.invariant.1 (search rules))

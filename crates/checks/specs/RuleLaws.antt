@@ -16,6 +16,7 @@ use Rattle.logs.specs.Write.{Write, before, same}
 use Rattle.logs.specs.LogTests.{in_range, goes_on, ordered, of_origin, up_to, greatest_clock, greatest_of, same_all, agrees}
 use Rattle.logs.specs.Places.{write_in}
 use Rattle.logs.proofs.SaidLaws.{said-from, said-past, said-none}
+use Rattle.checks.specs.WalkLaws.{goes-cons}
 
 -- ---- what passes a test, in the library's words
 
@@ -65,11 +66,6 @@ clocks-near a b h =
     (λ t. le-leb (b - a) 1 (⊎_elim (λ e. omega (arith, eqb-true b a e)) (λ e. omega (arith, eqb-true b (suc a) e)) (or_cases (eqb b a) (eqb b (suc a)) t)))
 
 module _ (n items : ℕ) where
-  -- The next write by itself, then those behind it.
-  goes-cons : (w x : Write) (g : List Write) → goes_on n items w (x ∷ g) ≡ (goes_on n items w (x ∷ []) && goes_on n items x g)
-  unfolding goes_on
-  goes-cons w x g = simp and_assoc
-
   -- One write by itself.
   pub goes_one : (w x : Write) → (in_range n items x && (before w x && (eqb x.clock w.clock || eqb x.clock (suc w.clock)))) ≡ goes_on n items w (x ∷ [])
   unfolding goes_on
@@ -86,7 +82,7 @@ module _ (n items : ℕ) where
       goes-turn : all ≡ (goes_on n items w (x ∷ []) && goes_on n items x (map write_in (drop (e + 1) ps)))
       goes-turn =
           so ∙ (ap (goes_on n items w) (said-from write_in ps e d some_left ∙ ap {B = List Write} (λ y. y ∷ map write_in (drop (e + 1) ps)) (sym read))
-          ∙ goes-cons w x _)
+          ∙ goes-cons n items w x _)
 
       -- It goes on.
       pub goes-next : goes_on n items w (x ∷ []) ≡ true → all ≡ goes_on n items x (map write_in (drop (e + 1) ps))

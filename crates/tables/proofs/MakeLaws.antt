@@ -1,5 +1,5 @@
 -- A fresh table is the words of the empty state, and what making answers. Assumes nothing.
-use Rattle.std.specs.Prelude.{ℕ, suc, ◌+◌, ◌-◌, ◌*◌, true, false, List, [], ◌∷◌, ◌++◌, ◌↔◌, ◌≡◌, refl, eqb, length, drop, replicate}
+use Rattle.std.specs.Prelude.{ℕ, suc, ◌+◌, ◌-◌, ◌*◌, true, false, List, [], ◌∷◌, ◌++◌, ◌↔◌, ◌≡◌, refl, eqb, length, set, drop, replicate}
 use Rattle.std.proofs.Common.{⊎_elim, sym, ◌∙◌, ap, arith, eqb-true, eq-eqb, ne_eqb}
 use Rattle.std.proofs.lemmas.Bool.{eqb-false}
 use Rattle.std.proofs.lemmas.List.{replicate-append-replicate}
@@ -36,10 +36,17 @@ fresh-encode z =
       e,
     ))
 
--- The numbers asked for, in place of the first three of as many zeros.
-pub fresh-stored : (z : Size) → (z.n ∷ z.l ∷ z.p ∷ []) ++ drop 3 (replicate (size z) 0) ≡ fresh z
+-- The numbers asked for, stored in front of zeros.
+pub fresh-stored : (z : Size) → set (set (set (replicate (size z) 0) 0 z.n) 1 z.l) 2 z.p ≡ fresh z
 unfolding fresh header size
 fresh-stored z =
+    let e : size z ≡ suc (suc (suc (suc (size z - 4)))) = omega arith in
+    ap (λ m. set (set (set (replicate m 0) 0 z.n) 1 z.l) 2 z.p) e
+
+-- The same numbers, copied to the front in place of the first three zeros.
+pub fresh-copied : (z : Size) → (z.n ∷ z.l ∷ z.p ∷ []) ++ drop 3 (replicate (size z) 0) ≡ fresh z
+unfolding fresh header size
+fresh-copied z =
     let e : size z ≡ suc (suc (suc (suc (size z - 4)))) = omega arith in
     ap (λ m. (z.n ∷ z.l ∷ z.p ∷ []) ++ drop 3 (replicate m 0)) e
 
@@ -61,12 +68,19 @@ module _ (z : Size) (buffer : List ℕ) where
   make-done e h = cond-true (within z) _ _ e ∙ cond-true (eqb (length buffer) (size z)) _ _ (eq-eqb (length buffer) (size z) h)
 
   -- The same, as it comes about: the three numbers stored in a cleared buffer.
-  pub make-stored : within z ≡ true → length buffer ≡ size z → {cleared left : List ℕ} → cleared ≡ replicate (length buffer) 0
+  pub make-stored : within z ≡ true → length buffer ≡ size z → {cleared : List ℕ} → cleared ≡ replicate (length buffer) 0
+      → making z buffer ≡ record { code = 0; buffer = set (set (set cleared 0 z.n) 1 z.l) 2 z.p }
+  make-stored e h {cleared} zeros =
+      let zeros' : cleared ≡ replicate (size z) 0 = zeros ∙ ap (λ m. replicate m 0) h in
+      make-done e h ∙ ap (λ (left : List ℕ). record { code = 0; buffer = left }) (sym (fresh-stored z) ∙ ap (λ (ws : List ℕ). set (set (set ws 0 z.n) 1 z.l) 2 z.p) (sym zeros'))
+
+  -- Or copied to its front.
+  pub make-copied : within z ≡ true → length buffer ≡ size z → {cleared left : List ℕ} → cleared ≡ replicate (length buffer) 0
       → left ≡ (z.n ∷ z.l ∷ z.p ∷ []) ++ drop 3 cleared → making z buffer ≡ record { code = 0; buffer = left }
-  make-stored e h {cleared} {left} zeros numbers =
+  make-copied e h {cleared} {left} zeros numbers =
       let zeros' : cleared ≡ replicate (size z) 0 = zeros ∙ ap (λ m. replicate m 0) h in
       make-done e h ∙ ap (λ (ws : List ℕ). record { code = 0; buffer = ws })
-      (sym (fresh-stored z) ∙ ap (λ (ws : List ℕ). (z.n ∷ z.l ∷ z.p ∷ []) ++ drop 3 ws) (sym zeros') ∙ sym numbers)
+      (sym (fresh-copied z) ∙ ap (λ (ws : List ℕ). (z.n ∷ z.l ∷ z.p ∷ []) ++ drop 3 ws) (sym zeros') ∙ sym numbers)
 
   -- Whatever is asked, one of the three.
   make-cases : {A : Type 0} → (within z ≡ false → A) → (within z ≡ true → (length buffer ≡ size z → ⊥) → A)

@@ -2,7 +2,7 @@ use borrow.Author.Rules.{rules}
 use Rattle.logs.proofs.SaidLaws.{said-origin}
 use Rattle.logs.specs.Log.{follow}
 use Rattle.logs.specs.Stored.{write_of}
-use Rattle.filing.specs.SendingLaws.{follow-next}
+use Rattle.filing.specs.SendingLaws.{follow-entry}
 use Rattle.vectors.specs.Vector.{vector_of}
 use Rattle.words.specs.RowLaws.{row-get_or}
 use Prim.Native.Nat.{ℕ, ◌<◌}
@@ -22,5 +22,8 @@ pub bounds-vector-w : goal.bounds-vector-w
 bounds-vector-w c = within (said-origin write_of c.args.batch.now c.loop-w.w-index _ _ refl c.loop-w-test.true c.requires) c.loop-w.invariant.0
 
 pub loop-w-preserved : goal.loop-w-preserved
-loop-w-preserved c =
-    (search rules, follow-next _ c.args.batch.now c.loop-w.w-index _ (vector_of c.args.vector.now) c.loop-w-test.true c.requires c.loop-w.invariant.1)
+loop-w-preserved c = (
+  search rules,
+  follow-entry _ c.args.batch.now c.loop-w.w-index _ (vector_of c.args.vector.now) c.loop-w-test.true
+      (said-origin write_of c.args.batch.now c.loop-w.w-index _ _ refl c.loop-w-test.true c.requires) c.loop-w.invariant.1,
+)

@@ -1,6 +1,6 @@
 -- `making::make` meets its contract.
 use Rattle.tables.specs.Layout.{size}
-use Rattle.tables.proofs.MakeLaws.{make-limits, make-length, make-stored, make_meets}
+use Rattle.tables.proofs.MakeLaws.{make-limits, make-length, make-copied, make_meets}
 use Rattle.tables.specs.Size.{Size, within}
 use Rattle.tables.proofs.SizeLaws.{within-exactly}
 use Rattle.std.proofs.Common.{Bool, ℕ, ◌≡◌, sym, ap, ◌∙◌, length, arith}
@@ -25,4 +25,4 @@ pub returns-then-buffer-words : goal.returns-then-buffer-words
 returns-then-buffer-words c = make_meets _ _ (make-length _ _ (tested c.new-z.ensures c.is_within.ensures ∙ c.if-not-is_within.false) (λ e. c.if-buffer-words.true (omega (arith, ap size c.new-z.ensures))))
 
 pub returns : goal.returns
-returns c = make_meets _ _ (make-stored _ _ (tested c.new-z.ensures c.is_within.ensures ∙ c.if-not-is_within.false) (omega (arith, ap size c.new-z.ensures)) c.clear.ensures c.copy.ensures)
+returns c = make_meets _ _ (make-copied _ _ (tested c.new-z.ensures c.is_within.ensures ∙ c.if-not-is_within.false) (omega (arith, ap size c.new-z.ensures)) c.clear.ensures c.copy.ensures)

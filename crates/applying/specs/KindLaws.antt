@@ -16,7 +16,7 @@ use Rattle.rules.specs.Step.{Step, Op, bad, opens, closes, reads, writes, exchan
 use Rattle.rules.specs.Rules.{rule, obeyed}
 use Rattle.rules.proofs.CallLaws.{step-means, means-next}
 use Rattle.rules.specs.Calls.{written}
-use Rattle.kinds.specs.Obeys.{Held, size_in, state_in, Sound, Comes}
+use Rattle.kinds.specs.Obeys.{Held, size_in, state_in, Sound, Came, Comes}
 use Rattle.kinds.specs.CameLaws.{came-refused, comes-by}
 use Rattle.applying.specs.Asked.{Applied}
 
@@ -105,8 +105,12 @@ step-applied {s} {left} {o} {r} sound x e comes =
       is_sound = subst (λ (y : Table). Held (shape y) left.words.now) (sym comes.kept.sizes) (means-held means);
     }
 
--- Code 2: an argument is out of range, or there is no such kind.
-pub nothing-applied : {s : Store} {r : Answer} → Sound s → (x : Step) → asked (size_in s) x ≡ bad → r ≡ refused 2 → Applied s x r s
+-- Out of range, or of no kind: 2.
+pub bad-comes : {z : Size} {t : List ℕ} → Held z t → {r : Answer} → r ≡ refused 2 → Came z (obeyed z (decode z t) bad) r t
 unfolding obeyed
+bad-comes held answer = came-refused held 2 refl answer
+
+-- So nothing is done where an argument is out of range, or there is no such kind.
+pub nothing-applied : {s : Store} {r : Answer} → Sound s → (x : Step) → asked (size_in s) x ≡ bad → r ≡ refused 2 → Applied s x r s
 nothing-applied {s} sound x e answer =
-    step-applied sound x e (record { kept = record { words = refl; sizes = refl }; came = came-refused sound 2 refl answer })
+    step-applied sound x e (record { kept = record { words = refl; sizes = refl }; came = bad-comes sound answer })

@@ -96,6 +96,8 @@ pub fn apply(store: &mut Store<'_>, x: StepWords) -> Result<Answer, Refusal>
         5 if x.exchange_in_range(z) => kinds::exchanging::exchange(
             store, a as usize, b as usize, c,
         ),
+        // An argument is out of range; or there is no such kind.
+        1..=5 => Err(Refusal::OutOfRange),
         _ => Err(Refusal::OutOfRange),
     }
 }

@@ -23,7 +23,7 @@ use Rattle.tables.specs.contracts.refusal.RefusalOrd.TheImpl.{cmp-value}
 use Rattle.tables.specs.declared.refusal.Refusal.{Refusal}
 use Rattle.tables.specs.declared.refusal.Refusal.TheVariants.{Unsound, OutOfRange, SlotState, ToItself, NoReach, Behind, Full, Length}
 use Rattle.choice.specs.Outcome.{Valued, session_in, value_of, outcome, up_to_date_to, serves, found, read_verdict, write_verdict, verdict, worse, tried, searched}
-use Rattle.choice.specs.OutcomeLaws.{Judged, answered, is_behind, is_full, serves_it, Halfway, none_yet, some_full, Judges, sought, Seeks, Searching, Finds}
+use Rattle.choice.specs.OutcomeLaws.{Judged, answered, is_behind, is_full, serves_it, Halfway, none_yet, some_full, Judges, sought, Seeks, Searching, Finds, Follows, Walking, Walks}
 
 -- ---- any servers, any verdicts
 
@@ -42,7 +42,7 @@ module _ (up_to_date serving : ℕ → Bool) (verdict_on : ℕ → Result Unit R
       go (is_behind c p) rest = rest ∙ ap (outcome (some i)) (sym (cond-false (serving x) _ _ p))
 
   -- From the start, the two searches.
-  searched-outcome : (xs : List ℕ) → value_of (searched verdict_on Behind xs) ≡ outcome (first up_to_date xs) (first serving xs)
+  pub searched-outcome : (xs : List ℕ) → value_of (searched verdict_on Behind xs) ≡ outcome (first up_to_date xs) (first serving xs)
   unfolding searched tried worse value_of outcome first
   searched-outcome [] = refl
   searched-outcome (x ∷ xs) = go (judged x) (searched-outcome xs) (searched-full x xs)
@@ -224,6 +224,63 @@ module _ (verdict : ℕ → Result Unit Refusal → Type 0) (n start : ℕ) wher
         go r (is_full c p) = halfway-full _ _ (halfway-same (cond-true _ _ _ c) (cond-false _ _ _ p) (search-turn l up_to_date serving judges))
         go r (is_behind c p) = halfway-behind (halfway-same (cond-false _ _ _ c) (cond-false _ _ _ p) (search-turn l up_to_date serving judges))
 
+-- ---- the loop goes the way of `searched`
+
+-- The greater refusal is the worse one.
+ord_max-worse : (a b : Refusal) → ord_max cmp-value.it a b ≡ worse a b
+unfolding worse
+ord_max-worse Unsound Unsound = refl
+ord_max-worse Unsound b = refl
+ord_max-worse OutOfRange Unsound = refl
+ord_max-worse OutOfRange b = refl
+ord_max-worse SlotState Unsound = refl
+ord_max-worse SlotState b = refl
+ord_max-worse ToItself Unsound = refl
+ord_max-worse ToItself b = refl
+ord_max-worse NoReach Unsound = refl
+ord_max-worse NoReach b = refl
+ord_max-worse Behind Unsound = refl
+ord_max-worse Behind b = refl
+ord_max-worse Full Unsound = refl
+ord_max-worse Full b = refl
+ord_max-worse Length Unsound = refl
+ord_max-worse Length b = refl
+
+module _ (verdict : ℕ → Result Unit Refusal → Type 0) (n start : ℕ) where
+  pub walk-starts : {i : ℕ} → i ≡ start → Walking verdict n start n i Behind
+  walk-starts e verdict_on follows = ap (λ i. searched verdict_on Behind (onwards n n i)) (sym e)
+
+  module _ (left i : ℕ) (worst : Refusal) (so : Walking verdict n start left i worst) where
+    -- No server is left.
+    pub walk-ends : left ≡ 0 → {found : Result ℕ Refusal} → found ≡ Err worst → Walks verdict n start found
+    unfolding onwards searched
+    walk-ends e is verdict_on follows = is ∙ sym (so verdict_on follows ∙ ap (λ m. searched verdict_on worst (onwards n m i)) e)
+
+    walk-turn : 0 < left → i < n → {v : Result Unit Refusal} → verdict i v → (verdict_on : ℕ → Result Unit Refusal) → Follows verdict n verdict_on
+        → searched verdict_on Behind (onwards n n start) ≡ tried v i worst (λ w. searched verdict_on w (onwards n (left - 1) (next n i)))
+    unfolding onwards searched
+    walk-turn l h {v} d verdict_on follows =
+        let e : left ≡ suc (left - 1) = omega arith in
+        so verdict_on follows
+        ∙ (ap (λ m. searched verdict_on worst (onwards n m i)) e
+        ∙ ap (λ x. tried x i worst (λ w. searched verdict_on w (onwards n (left - 1) (next n i)))) (sym (follows i v h d)))
+
+    -- This one serves.
+    pub walk-found : 0 < left → i < n → {v : Result Unit Refusal} → verdict i v → v ≡ Ok tt
+        → {found : Result ℕ Refusal} → found ≡ Ok i → Walks verdict n start found
+    unfolding tried
+    walk-found l h d e is verdict_on follows =
+        is ∙ sym (walk-turn l h d verdict_on follows ∙ ap (λ x. tried x i worst (λ w. searched verdict_on w (onwards n (left - 1) (next n i)))) e)
+
+    -- This one refuses: the worse refusal is kept.
+    pub walk-refused : 0 < left → i < n → {v : Result Unit Refusal} {refusal : Refusal} → verdict i v → v ≡ Err refusal
+        → {more : Refusal} → more ≡ ord_max cmp-value.it worst refusal → {j : ℕ} → j ≡ next n i → Walking verdict n start (left - 1) j more
+    unfolding tried
+    walk-refused l h {refusal = refusal} d e is is_next verdict_on follows =
+        walk-turn l h d verdict_on follows
+        ∙ (ap (λ x. tried x i worst (λ w. searched verdict_on w (onwards n (left - 1) (next n i)))) e
+        ∙ ap₂ (λ w m. searched verdict_on w (onwards n (left - 1) m)) (sym (is ∙ ord_max-worse worst refusal)) (sym is_next))
+
 -- ---- the session's own searches
 
 module _ (z : Size) (t : List ℕ) (k reach : ℕ) {result : Valued} {verdict : ℕ → Result Unit Refusal → Type 0}
@@ -235,3 +292,16 @@ module _ (z : Size) (t : List ℕ) (k reach : ℕ) {result : Valued} {verdict : 
   pub found-to_write : ((i : ℕ) (v : Result Unit Refusal) → i < z.n → verdict i v → v ≡ write_verdict z t k reach i) → result ≡ found true z (decode z t) (session_in z t k) reach
   unfolding found choose up_to_date_to serves
   found-to_write is = finds _ _ (λ i v l j. subst (Judged _ _) (sym (is i v l j)) (write-judged z t k reach i))
+
+-- By `searched`, which finds what the rules find.
+module _ (z : Size) (t : List ℕ) (k reach : ℕ) {result : Result ℕ Refusal} {judged : ℕ → Result Unit Refusal → Type 0}
+    (walks : Walks judged z.n (start_of (session_in z t k)) result) where
+  pub walked-to_read : Follows judged z.n (read_verdict z t k reach) → value_of result ≡ found false z (decode z t) (session_in z t k) reach
+  unfolding read_verdict verdict
+  walked-to_read follows =
+      ap value_of (walks (verdict false z (decode z t) (session_in z t k) reach) follows) ∙ sym (found-searched z (decode z t) (session_in z t k) reach false)
+
+  pub walked-to_write : Follows judged z.n (write_verdict z t k reach) → value_of result ≡ found true z (decode z t) (session_in z t k) reach
+  unfolding write_verdict verdict
+  walked-to_write follows =
+      ap value_of (walks (verdict true z (decode z t) (session_in z t k) reach) follows) ∙ sym (found-searched z (decode z t) (session_in z t k) reach true)

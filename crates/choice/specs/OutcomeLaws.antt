@@ -8,7 +8,7 @@ use Rattle.tables.specs.declared.refusal.Refusal.{Refusal}
 use Rattle.tables.specs.declared.refusal.Refusal.TheVariants.{Behind, Full}
 use Rattle.words.specs.Lists.{first}
 use Rattle.rules.specs.Choice.{onwards, around}
-use Rattle.choice.specs.Outcome.{Valued, outcome}
+use Rattle.choice.specs.Outcome.{Valued, outcome, searched}
 
 -- A verdict on a server, by whether it is up to date and whether it serves.
 pub data Judged (up_to_date serving : Bool) : Result Unit Refusal → Type 0 where
@@ -42,6 +42,21 @@ Searching verdict n start left i worst =
 abbrev pub Finds : (ℕ → Result Unit Refusal → Type 0) → ℕ → ℕ → Valued → Type 0
 Finds verdict n start result =
     (up_to_date serving : ℕ → Bool) → Judges verdict n up_to_date serving → result ≡ sought n start up_to_date serving
+
+-- The verdicts that a function gives, so that these are its own,
+abbrev pub Follows : (ℕ → Result Unit Refusal → Type 0) → ℕ → (ℕ → Result Unit Refusal) → Type 0
+Follows verdict n verdict_on = (i : ℕ) (v : Result Unit Refusal) → i < n → verdict i v → v ≡ verdict_on i
+
+-- that a search by them is on its way through `searched`: what this answers is what the servers not yet tried give, with the worst refusal so far,
+abbrev pub Walking : (ℕ → Result Unit Refusal → Type 0) → ℕ → ℕ → ℕ → ℕ → Refusal → Type 0
+Walking verdict n start left i worst =
+    (verdict_on : ℕ → Result Unit Refusal) → Follows verdict n verdict_on
+    → searched verdict_on Behind (onwards n n start) ≡ searched verdict_on worst (onwards n left i)
+
+-- and that it is done.
+abbrev pub Walks : (ℕ → Result Unit Refusal → Type 0) → ℕ → ℕ → Result ℕ Refusal → Type 0
+Walks verdict n start result =
+    (verdict_on : ℕ → Result Unit Refusal) → Follows verdict n verdict_on → result ≡ searched verdict_on Behind (onwards n n start)
 
 -- The code and the server of an answer.
 abbrev pub answered : Answer → Valued

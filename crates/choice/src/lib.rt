@@ -8,7 +8,7 @@ ghost use Rattle.vectors.specs.Vector.{vector_of, dominates};
 ghost use Rattle.tables.specs.Layout.{decode};
 ghost use Rattle.tables.specs.Shape.{shape};
 ghost use Rattle.rules.specs.Choice.{start_of, next, reaches};
-ghost use Rattle.choice.specs.OutcomeLaws.{Finds};
+ghost use Rattle.choice.specs.OutcomeLaws.{Finds, Walks};
 ghost use Rattle.choice.specs.Outcome.{Asking as Asks, session_in, current, has_bit, read_verdict, write_verdict, value_of, found};
 
 use tables::refusal::Refusal;
@@ -115,7 +115,8 @@ impl Asking<'_> {
     // `Behind`.
     fn search<F: Fn(usize) -> Result<(), Refusal>>(&self, may_use: F) -> Result<usize, Refusal>
         requires { (i : ℕ) → i < self.now.table.sizes.n → F.pre may_use i }
-        ensures { let z = shape self.now.table.sizes in Finds (F.post may_use) z.n (start_of (session_in z self.now.table.words.now self.now.slot)) (value_of result) }
+        ensures finds { let z = shape self.now.table.sizes in Finds (F.post may_use) z.n (start_of (session_in z self.now.table.words.now self.now.slot)) (value_of result) }
+        ensures walks { let z = shape self.now.table.sizes in Walks (F.post may_use) z.n (start_of (session_in z self.now.table.words.now self.now.slot)) result }
     {
         let mut i = self.start();
         let mut left = self.table.sizes.n;

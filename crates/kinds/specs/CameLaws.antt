@@ -9,7 +9,7 @@ use Rattle.views.specs.declared.Store.{Store}
 use Rattle.rules.specs.Step.{refused}
 use Rattle.rules.specs.Step as rules
 use Rattle.rules.specs.Rules.{Outcome, refuse}
-use Rattle.kinds.specs.Obeys.{answer_of, Held, Came, state_in, Sound, Comes}
+use Rattle.kinds.specs.Obeys.{answer_of, Held, Came, size_in, state_in, Sound, Kept, Comes}
 use Rattle.kinds.specs.declared.Answer.{Answer}
 
 -- By another outcome that is the same.
@@ -36,3 +36,7 @@ comes-refused sound {e = e} is same =
 -- It comes from an outcome that is the same.
 pub comes-by : {s left : Store} {o p : Outcome} {r : rules.Answer} → o ≡ p → Comes s p r left → Comes s o r left
 comes-by {s} {left} {o} {p} {r} same comes = subst (λ (q : Outcome). Comes s q r left) (sym same) comes
+
+-- So by what is answered and the words that are left.
+pub comes : {s left : Store} {o p : Outcome} {r : rules.Answer} → Kept s left → o ≡ p → r ≡ p.answer → left.words.now ≡ encode (size_in s) p.state → Comes s o r left
+comes kept same answer table = record { kept = kept; came = came same answer table }

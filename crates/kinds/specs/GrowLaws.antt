@@ -3,7 +3,7 @@ use Rattle.std.specs.Prelude.{ℕ, ◌+◌, ◌-◌, ◌*◌, ◌<◌, ◌≤◌
 use Rattle.std.proofs.Common.{sym, ◌∙◌, ap, ap₂, arith, length-append}
 use Rattle.words.specs.Lists.{splice}
 use Rattle.words.specs.SpanLaws.{span}
-use Rattle.words.specs.LentLaws.{lent, length-lent}
+use Rattle.words.specs.LentLaws.{lent, length-lent, length_back}
 use Rattle.logs.specs.Write.{Write}
 use Rattle.logs.specs.Log.{insert_all}
 use Rattle.logs.proofs.LogLaws.{length-insert_all}
@@ -16,6 +16,11 @@ use Rattle.tables.proofs.BoundLaws.{log-within}
 use Rattle.tables.proofs.ViewLaws.{room-view, length-view, log-view}
 use Rattle.tables.proofs.PutLaws.{put-log}
 use Rattle.kinds.specs.Obeys.{Held, Fitting}
+
+-- Server i's places, lent from one place to another: the table has as many words once they are back.
+module _ {z : Size} {t : List ℕ} (held : Held z t) (i : ℕ) (h : i < z.n) {from to : ℕ} (begins : from ≡ log_at z i) (ends : to ≡ from + z.l * width) where
+  pub log_back : (left : List ℕ) → length left ≡ length (take (to - from) (drop from t)) → length (take from t ++ (left ++ drop (to - from) (drop from t))) ≡ length t
+  log_back left = length_back t left (z.l * width) begins ends (omega (arith, length-view held, log-within z i h))
 
 -- Server i's log, whose count was read and whose places are lent from one place to another.
 module _ {z : Size} {t : List ℕ} (held : Held z t) (i : ℕ) (h : i < z.n)

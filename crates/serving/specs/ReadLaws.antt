@@ -2,7 +2,7 @@
 use Rattle.std.specs.Prelude.{ℕ, suc, ◌+◌, ◌-◌, ◌<◌, ◌≤◌, ◌≡◌, length, take, drop, List, ◌++◌}
 use Rattle.std.proofs.Math.Option.{Option, some}
 use Rattle.std.proofs.Math.Path.{refl, ap, ap₂}
-use Rattle.std.proofs.Common.{◌∙◌, add-one, sym, arith}
+use Rattle.std.proofs.Common.{◌∙◌, add-one, sym, arith, take_at}
 use Rattle.std.proofs.lemmas.List.{take-take, drop-take}
 use Rattle.std.proofs.Math.ListN.{set}
 use Rattle.words.specs.Lists.{row, part, splice}
@@ -21,6 +21,7 @@ use Rattle.logs.specs.declared.Entry.{Entry}
 use Rattle.filing.specs.Found.{last_of}
 use Rattle.tables.specs.Size.{Size}
 use Rattle.tables.specs.Layout.{vector_at, last_used_at, read_at, slot_at, decode}
+use Rattle.tables.proofs.LaidLaws.{length-vector}
 use Rattle.tables.proofs.ViewLaws.{room-view, vector-view, read_view}
 use Rattle.choice.specs.Outcome.{Asking, session_in}
 use Rattle.rules.specs.Step.{Answer}
@@ -65,6 +66,12 @@ part-raised t {front} {back} {left} n at from before inside first second raised 
     ap₂ (λ (f b : List ℕ). f ++ (left ++ drop n b)) first second ∙ ap (λ (ws : List ℕ). take at t ++ (ws ++ drop n (drop at t))) so
 
 module _ {z : Size} {t : List ℕ} {k : ℕ} (asking : Asking z t k) (i : ℕ) (h : i < z.n) where
+  -- The front of a buffer to which the server's vector was copied.
+  pub vector-copied : {vector copied : List ℕ} (rest : List ℕ) → vector ≡ part t (vector_at z i 0) z.n → copied ≡ vector ++ rest
+      → take z.n copied ≡ row z.n ((decode z t).vector i)
+  vector-copied {vector} rest is so =
+      ap (take z.n) so ∙ (take_at vector rest z.n (length-vector asking.means i h is) ∙ (is ∙ vector-view asking.means i h))
+
   -- The session's read-vector, raised by the server's vector.
   pub read-raised : {left : List ℕ} {at from : ℕ} → at ≡ read_at z k 0 → from ≡ vector_at z i 0
       → left ≡ splice at z.n t (row z.n (join (vector_of (part t at z.n)) (vector_of (part t from z.n))))

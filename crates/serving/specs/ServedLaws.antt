@@ -1,5 +1,5 @@
 -- A read and a write by what is found on the way: the slot, the reach, and the outcome of the search. Assumes nothing.
-use Rattle.std.specs.Prelude.{ℕ, ◌<◌, Bool, true, false, List, ◌≡◌, refl, Ok, Err, eqb, length, get_or}
+use Rattle.std.specs.Prelude.{ℕ, ◌<◌, Bool, true, false, List, ◌≡◌, refl, Result, Ok, Err, eqb, length, get_or}
 use Rattle.std.proofs.Math.Option.{Option, none, some}
 use Rattle.std.proofs.Common.{sym, ◌∙◌, arith, eq-eqb, ne_eqb, ltb-true}
 use Rattle.std.proofs.Math.Path.{ap, ap₂, subst₂}
@@ -13,14 +13,15 @@ use Rattle.tables.specs.Refused.{code_of}
 use Rattle.tables.specs.declared.refusal.Refusal.{Refusal}
 use Rattle.tables.specs.declared.refusal.Refusal.TheVariants.{Unsound, OutOfRange, SlotState, ToItself, NoReach, Behind, Full, Length}
 use Rattle.tables.proofs.ViewLaws.{shut-view, open-view}
-use Rattle.rules.specs.Step.{reads, writes}
+use Rattle.rules.specs.Step.{reads, writes, Answer, refused}
 use Rattle.rules.specs.Choice.{start_of, choose, up_to_date_to_read, up_to_date_to_write, has_room, may_write_to}
 use Rattle.rules.specs.Chosen.{Chosen}
 use Rattle.rules.proofs.ChoiceLaws.{choose-some}
 use Rattle.rules.specs.Rules.{reading, read_from, writing, write_to, obeyed, refuse}
 use Rattle.choice.specs.Outcome.{Valued, value_of, outcome, up_to_date_to, serves, found, Asking, session_in}
 use Rattle.choice.proofs.AskingLaws.{asking-starts}
-use Rattle.kinds.specs.Obeys.{Held}
+use Rattle.kinds.specs.Obeys.{Held, Came}
+use Rattle.kinds.specs.CameLaws.{came-refused}
 
 -- ---- what two searches found
 
@@ -29,6 +30,16 @@ pub record Both (o r : Option ℕ) (j : ℕ) : Type 0 where
   pub first : ℕ
   pub current : o ≡ some first
   pub served : r ≡ some j
+
+-- Only the first did.
+pub record Only (o r : Option ℕ) : Type 0 where
+  pub first : ℕ
+  pub current : o ≡ some first
+  pub unserved : r ≡ none
+
+-- Two outcomes with other codes.
+differ : {A : Type 0} {o p : Valued} → o ≡ p → (o.code ≡ p.code → ⊥) → A
+differ e apart = absurd (apart (ap (λ v. v.code) e))
 
 -- A refusal has a code that is not 0.
 refusal-coded : {A : Type 0} (e : Refusal) → code_of e ≡ 0 → A
@@ -47,6 +58,18 @@ outcome-at none r j e = absurd (omega (arith, ap (λ (v : Valued). v.code) e))
 outcome-at (some i) none j e = absurd (omega (arith, ap (λ (v : Valued). v.code) e))
 outcome-at (some i) (some m) j e = record { first = i; current = refl; served = ap (λ v. some v.server) (sym e) }
 
+outcome-behind : (o r : Option ℕ) → outcome o r ≡ value_of (Err Behind) → o ≡ none
+unfolding outcome value_of
+outcome-behind none r e = refl
+outcome-behind (some i) none e = differ e (λ c. omega arith)
+outcome-behind (some i) (some m) e = differ e (λ c. omega arith)
+
+outcome-full : (o r : Option ℕ) → outcome o r ≡ value_of (Err Full) → Only o r
+unfolding outcome value_of
+outcome-full none r e = differ e (λ c. omega arith)
+outcome-full (some i) none e = record { first = i; current = refl; unserved = refl }
+outcome-full (some i) (some m) e = differ e (λ c. omega arith)
+
 -- One search is never full.
 outcome-same : {A : Type 0} (o : Option ℕ) → outcome o o ≡ value_of (Err Full) → A
 unfolding outcome value_of
@@ -57,7 +80,7 @@ outcome-same (some i) e = absurd (omega (arith, ap (λ (v : Valued). v.code) e))
 
 module _ {z : Size} {t : List ℕ} (held : Held z t) (k : ℕ) (below : k < z.p) {word : ℕ} (is : word ≡ get_or t (guarantees_at z k) 0) where
   -- A slot whose first word is 0 is closed,
-  slot-shut : word ≡ 0 → (decode z t).slot k ≡ closed
+  pub slot-shut : word ≡ 0 → (decode z t).slot k ≡ closed
   slot-shut e = shut-view held k below (sym is ∙ e)
 
   -- and else it is open.
@@ -100,6 +123,12 @@ module _ {z : Size} {t : List ℕ} {k : ℕ} (asking : Asking z t k) where
       pub read-unserved : (e : Refusal) → value_of (Err e) ≡ found false z (decode z t) (session_in z t k) reach → obeyed z (decode z t) (reads k item reach) ≡ refuse (code_of e) (decode z t)
       unfolding found up_to_date_to serves
       read-unserved e so = read_by n _ refl ∙ unread e _ so
+
+      -- By any result of the search that says so.
+      pub read_behind : {c : Result ℕ Refusal} → value_of c ≡ found false z (decode z t) (session_in z t k) reach → c ≡ Err Behind
+          → {r : Answer} → r ≡ refused 6 → Came z (obeyed z (decode z t) (reads k item reach)) r t
+      unfolding found up_to_date_to serves read_from
+      read_behind so e answer = came-refused asking.means 6 (read_by n none (outcome-behind _ _ (sym so ∙ ap value_of e))) answer
 
       -- A read is never refused for a full log.
       pub read-not-full : value_of (Err Full) ≡ found false z (decode z t) (session_in z t k) reach → ⊥
@@ -145,6 +174,19 @@ module _ {z : Size} {t : List ℕ} {k : ℕ} (asking : Asking z t k) where
       pub write-unserved : (e : Refusal) → value_of (Err e) ≡ found true z (decode z t) (session_in z t k) reach → obeyed z (decode z t) (writes k item value reach) ≡ refuse (code_of e) (decode z t)
       unfolding found up_to_date_to serves
       write-unserved e so = write-by n _ _ refl refl ∙ unwritten e _ _ so
+
+      -- By any result of the search that says so.
+      pub write-behind : {c : Result ℕ Refusal} → value_of c ≡ found true z (decode z t) (session_in z t k) reach → c ≡ Err Behind
+          → {r : Answer} → r ≡ refused 6 → Came z (obeyed z (decode z t) (writes k item value reach)) r t
+      unfolding found up_to_date_to serves write_to
+      write-behind so e answer = came-refused asking.means 6 (write-by n none _ (outcome-behind _ _ (sym so ∙ ap value_of e)) refl) answer
+
+      pub write-full : {c : Result ℕ Refusal} → value_of c ≡ found true z (decode z t) (session_in z t k) reach → c ≡ Err Full
+          → {r : Answer} → r ≡ refused 7 → Came z (obeyed z (decode z t) (writes k item value reach)) r t
+      unfolding found up_to_date_to serves write_to
+      write-full so e answer =
+          let f : Only _ _ = outcome-full _ _ (sym so ∙ ap value_of e) in
+          came-refused asking.means 7 (write-by n (some f.first) none f.current f.unserved) answer
 
       module _ (i : ℕ) (so : value_of (Ok i) ≡ found true z (decode z t) (session_in z t k) reach) where
         write-chosen : Chosen z.n (start_of (session_in z t k)) reach (may_write_to z (decode z t) (session_in z t k)) i

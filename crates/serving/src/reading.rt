@@ -69,6 +69,9 @@ pub fn read(store: &mut Store<'_>, k: usize, item: u32, reach: u32) -> Result<An
     requires { Sound store.old × (k < store.old.sizes.p) }
     ensures { Obeys store.old (reads k item reach) (answer_of result) store.new }
 {
-    let i = asking(store, k, reach)?.search_to_read()?;
-    Ok(read_at(store, k, item, i))
+    match asking(store, k, reach)?.search_to_read() {
+        Ok(i) => Ok(read_at(store, k, item, i)),
+        // An arm of its own, and no `?`: so an edit can answer another refusal here, and is refused for that alone.
+        Err(refusal) => Err(refusal),
+    }
 }

@@ -63,6 +63,9 @@ pub fn write(
     requires { Sound store.old × (k < store.old.sizes.p) }
     ensures { Obeys store.old (writes k item value reach) (answer_of result) store.new }
 {
-    let i = asking(store, k, reach)?.search_to_write()?;
-    Ok(write_at(store, k, item, value, i))
+    match asking(store, k, reach)?.search_to_write() {
+        Ok(i) => Ok(write_at(store, k, item, value, i)),
+        // An arm of its own, and no `?`: so an edit can answer another refusal here, and is refused for that alone.
+        Err(refusal) => Err(refusal),
+    }
 }

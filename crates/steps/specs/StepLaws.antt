@@ -1,6 +1,6 @@
 -- A step on any table: from the check of the table and what was done, to the promise; and its answer as five words of a buffer. Assumes
 -- nothing.
-use Rattle.std.specs.Prelude.{ℕ, ◌+◌, ◌≤◌, Bool, true, false, List, [], ◌∷◌, ◌≡◌, refl, length, set}
+use Rattle.std.specs.Prelude.{ℕ, ◌+◌, ◌≤◌, Bool, true, false, List, [], ◌∷◌, ◌≡◌, refl, length, get_or, set}
 use Rattle.std.proofs.Common.{sym, ◌∙◌, ap, subst, arith}
 use Rattle.words.specs.Lists.{splice}
 use Rattle.words.specs.SpliceLaws.{set-five}
@@ -41,6 +41,18 @@ step-promised {x = x} sound applied =
       answer_is = applied.comes.came.answer_is ∙ sym (ap (λ w. w.answer) (step-means sound x));
       table_is = applied.comes.came.table_is ∙ sym (ap (λ w. w.table) (step-means sound x));
     }
+
+-- The five words of an answer, one by one: however they are listed, they are the answer's.
+pub five-words : (r : Answer) (words : List ℕ) → length words ≡ 5 → get_or words 0 0 ≡ r.code → get_or words 1 0 ≡ r.server → get_or words 2 0 ≡ r.origin
+    → get_or words 3 0 ≡ r.clock → get_or words 4 0 ≡ r.value → words ≡ answer_words (r ∷ [])
+unfolding answer_words
+five-words r [] five code server origin clock value = absurd (omega (arith, five))
+five-words r (k ∷ []) five code server origin clock value = absurd (omega (arith, five))
+five-words r (k ∷ a ∷ []) five code server origin clock value = absurd (omega (arith, five))
+five-words r (k ∷ a ∷ b ∷ []) five code server origin clock value = absurd (omega (arith, five))
+five-words r (k ∷ a ∷ b ∷ c ∷ []) five code server origin clock value = absurd (omega (arith, five))
+five-words r (k ∷ a ∷ b ∷ c ∷ d ∷ []) five code server origin clock value = λ e. code e ∷ server e ∷ origin e ∷ clock e ∷ value e ∷ []
+five-words r (k ∷ a ∷ b ∷ c ∷ d ∷ more ∷ words) five code server origin clock value = absurd (omega (arith, five))
 
 -- A step whose answer's words are put at their place.
 pub step-put : {t left written : List ℕ} {x : Step} (r : Answer) {words : List ℕ} (at : ℕ) (answers : List ℕ) → written ≡ splice at 5 answers words → words ≡ answer_words (r ∷ []) → StepPromise t x r left

@@ -21,11 +21,11 @@ receive-requires c =
     let view = c.view-view.ensures in (
       c.requires.0,
       c.requires.2,
-      (sending-seen c.requires.0 view.words view.sizes c.requires.1 c.requires.2 c.lacking-k.new.batch _ c.log.ensures c.vector.ensures c.count.ensures c.min-limit.ensures (search rules) (search rules) c.lacking-k.ensures.which).fitting,
+      (sending-seen c.requires.0 view.words view.sizes {most = c.args.most} c.requires.1 c.requires.2 {limit = c.min-limit.result} c.lacking-k.new.batch _ c.log.ensures c.vector.ensures c.count.ensures (omega (arith, c.min-limit.ensures)) (search rules) (search rules) c.lacking-k.ensures.which).fitting,
     )
 
 pub returns : goal.returns
 returns c =
     let view = c.view-view.ensures in
-    let sent = sending-seen c.requires.0 view.words view.sizes c.requires.1 c.requires.2 c.lacking-k.new.batch _ c.log.ensures c.vector.ensures c.count.ensures c.min-limit.ensures (search rules) (search rules) c.lacking-k.ensures.which in
+    let sent = sending-seen c.requires.0 view.words view.sizes {most = c.args.most} c.requires.1 c.requires.2 {limit = c.min-limit.result} c.lacking-k.new.batch _ c.log.ensures c.vector.ensures c.count.ensures (omega (arith, c.min-limit.ensures)) (search rules) (search rules) c.lacking-k.ensures.which in
     record { kept = search rules; came = exchange-done c.requires.0 _ _ _ sent c.if-from-to.false c.receive.ensures.table_is }

@@ -14,20 +14,26 @@ const AFTER_A_READ: [[u32; 5]; 5] = [
     [4, 0, 7, 60, 2],
 ];
 
-// The codes for a session with these guarantees, of steps on a fresh table.
-fn codes_with(rt: &impl Print, guarantees: u32, list: &[[u32; 5]]) -> io::Result<()> {
-    let mut t: [u32; 54] = rows::fresh(2, 4, 2);
-    // The slot is closed, so the open is not refused.
-    let _ = steps::step(&mut t, 1, 0, guarantees, 0, 0);
-    play::codes(rt, &mut t, list)
+// The codes for a session with these guarantees, of steps on a table that is made anew over whatever words it had.
+fn codes_with(
+    rt: &impl Print,
+    guarantees: u32,
+    t: &mut [u32; 54],
+    list: &[[u32; 5]],
+) -> io::Result<()> {
+    // The length fits, so the making is not refused; the slot is closed, so the open isn't either.
+    let _ = tables::making::make(2, 4, 2, t);
+    let _ = steps::step(t, 1, 0, guarantees, 0, 0);
+    play::codes(rt, t, list)
 }
 
 fn all_guarantees(rt: &impl Print) -> io::Result<()> {
     for guarantees in 0..16 {
+        let mut t = [0; 54];
         print!(rt; "guarantees {guarantees}, after a write:")?;
-        codes_with(rt, guarantees, &AFTER_A_WRITE)?;
+        codes_with(rt, guarantees, &mut t, &AFTER_A_WRITE)?;
         print!(rt; ", after a read:")?;
-        codes_with(rt, guarantees, &AFTER_A_READ)?;
+        codes_with(rt, guarantees, &mut t, &AFTER_A_READ)?;
         println!(rt; "")?;
     }
     Ok(())

@@ -74,19 +74,21 @@ const ENDS: [[u32; 5]; 18] = [
     [5, 0, 0, 9, 0], // to itself
 ];
 
+// A table is made again over the words that the steps before left, and none of them may be seen behind it.
 fn one_place_each(rt: &impl Print) -> io::Result<()> {
     let mut t: [u32; 30] = rows::fresh(2, 1, 2);
     play::play(rt, "one place", &mut t, &ONE_PLACE)?;
-    t = rows::fresh(2, 1, 2);
+    // The lengths fit, so no making is refused.
+    let _ = tables::making::make(2, 1, 2, &mut t);
     play::play(rt, "behind and full", &mut t, &APART)?;
-    t = rows::fresh(2, 1, 2);
+    let _ = tables::making::make(2, 1, 2, &mut t);
     play::play(rt, "full or behind", &mut t, &FULL_OR_BEHIND)
 }
 
 fn four_places_each(rt: &impl Print) -> io::Result<()> {
     let mut t: [u32; 54] = rows::fresh(2, 4, 2);
     play::play(rt, "reopened slot", &mut t, &REOPENED)?;
-    t = rows::fresh(2, 4, 2);
+    let _ = tables::making::make(2, 4, 2, &mut t);
     play::play(rt, "ends of ranges", &mut t, &ENDS)
 }
 

@@ -21,7 +21,7 @@ fn both_ways(
     answers: &mut [u32],
     u: &mut [u32],
 ) -> io::Result<()> {
-    play::run(rt, name, t, list, answers)?;
+    play::run(rt, name, t, list.as_flattened(), answers)?;
     play::play(rt, name, u, list)?;
     print!(rt; "{name}, the steps leave the run's table:")?;
     show::kept(rt, t, u)
@@ -29,7 +29,7 @@ fn both_ways(
 
 fn ten_rows(rt: &impl Print) -> io::Result<()> {
     let mut t: [u32; 48] = rows::fresh(2, 4, 1);
-    let mut u = t;
+    let mut u: [u32; 48] = rows::fresh(2, 4, 1);
     both_ways(
         rt,
         "ten rows",
@@ -42,7 +42,7 @@ fn ten_rows(rt: &impl Print) -> io::Result<()> {
 
 fn one_more(rt: &impl Print) -> io::Result<()> {
     let mut t: [u32; 54] = rows::fresh(2, 4, 2);
-    let mut u = t;
+    let mut u: [u32; 54] = rows::fresh(2, 4, 2);
     both_ways(rt, "2 4 2", &ONE_MORE, &mut t, &mut [0; 35], &mut u)
 }
 

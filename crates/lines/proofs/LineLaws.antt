@@ -1,12 +1,13 @@
 -- From a line's numbers in words to the line. Assumes nothing.
-use Rattle.std.specs.Prelude.{ℕ, ◌+◌, ◌-◌, ◌≤◌, ◌<◌, false, List, [], ◌∷◌, ◌++◌, ◌≡◌, refl, eqb, length, get_or, take, drop, slice_range, Option, None, Some}
-use Rattle.std.proofs.Common.{append_assoc, length-append, take-append-drop, drop_at, sym, ◌∙◌, ap, arith, eq-eqb, ne_eqb, take_all, length-drop, length-take-le, drop_of_length-le}
+use Rattle.std.specs.Prelude.{ℕ, zero, suc, ◌+◌, ◌-◌, ◌≤◌, ◌<◌, true, false, List, [], ◌∷◌, ◌++◌, ◌≡◌, refl, eqb, length, get_or, take, drop, slice_range, Option, None, Some}
+use Rattle.std.proofs.Common.{append_assoc, length-append, take-append-drop, drop_at, sym, ◌∙◌, ap, arith, eqb-true, eq-eqb, ne_eqb, take_all, length-drop, length-take-le, drop_of_length-le}
 use Rattle.std.specs.Borrow.{Bor}
-use Rattle.words.specs.TestLaws.{cond-elim, cond-false}
+use Rattle.words.specs.Tests.{zeros}
+use Rattle.words.specs.TestLaws.{cond-elim, cond-true, cond-false, and_left, and_right}
 use Rattle.rules.specs.Step.{Step}
 use Rattle.lines.specs.Read.{Got, chain, read_number, read_fields, kind_of, count_of, step_with, read_arguments, read_step, read_sizes_behind, read_sizes, read_line}
 use Rattle.lines.specs.Kinds.{number_of}
-use Rattle.lines.specs.Found.{got, Same, words_of, words_read, line_words, moved_behind, NextPromise}
+use Rattle.lines.specs.Found.{got, Same, placed, fields_got, words_of, words_read, line_words, moved_behind, NextPromise}
 use Rattle.lines.specs.declared.kind.Kind.{Kind}
 use Rattle.lines.specs.declared.kind.Kind.TheVariants.{Open, Close, Read, Write, Exchange}
 use Rattle.lines.specs.declared.Reader.{Reader}
@@ -14,14 +15,67 @@ use Rattle.std.proofs.lemmas.Option.{same_Some}
 use Rattle.lines.proofs.GotLaws.{none-some}
 use Rattle.lines.proofs.ReadLaws.{read-step, read-sizes}
 
+-- ---- words of which the last are 0
+
+zeros-get_or : (ws : List ℕ) (j : ℕ) → zeros ws ≡ true → get_or ws j 0 ≡ 0
+unfolding zeros
+zeros-get_or [] j h = refl
+zeros-get_or (w ∷ ws) zero h = eqb-true w 0 (and_left (eqb w 0) (zeros ws) h)
+zeros-get_or (w ∷ ws) (suc j) h = zeros-get_or ws j (and_right (eqb w 0) (zeros ws) h)
+
+-- What is not among the first is 0 either way.
+get_or_front : (k : ℕ) (ws : List ℕ) (j : ℕ) → zeros (drop k ws) ≡ true → get_or (take k ws) j 0 ≡ get_or ws j 0
+get_or_front zero ws j h = sym (zeros-get_or ws j h)
+get_or_front (suc k) [] j h = refl
+get_or_front (suc k) (w ∷ ws) zero h = refl
+get_or_front (suc k) (w ∷ ws) (suc j) h = get_or_front k ws j h
+
+-- ---- from the numbers to the line
+
+module _ (bs : List ℕ) (count : ℕ) (left : List ℕ) {r : Option (Bor (List ℕ))} (found : fields_got left r ≡ read_fields count bs) where
+  pub fields-found : {rest : Bor (List ℕ)} → r ≡ Some rest → Some (record { value = left; rest = rest.now }) ≡ read_fields count bs
+  fields-found e = ap (fields_got left) (sym e) ∙ found
+
+  pub fields-lost : r ≡ None → None ≡ read_fields count bs
+  fields-lost e = ap (fields_got left) (sym e) ∙ found
+
+  -- The step that a line's numbers make, if they make one; f is what makes it.
+  line-found : (f : List ℕ → Step) {rest : Bor (List ℕ)} → r ≡ Some rest
+      → Some (record { value = f left; rest = rest.now }) ≡ chain (read_fields count bs) (λ xs rest. Some (record { value = f xs; rest = rest }))
+  unfolding chain
+  line-found f e = ap (λ o. chain o (λ xs rest. Some (record { value = f xs; rest = rest }))) (fields-found e)
+
+  line-lost : (f : List ℕ → Step) → r ≡ None → None ≡ chain (read_fields count bs) (λ xs rest. Some (record { value = f xs; rest = rest }))
+  unfolding chain
+  line-lost f e = ap (λ o. chain o (λ xs rest. Some (record { value = f xs; rest = rest }))) (fields-lost e)
+
+  -- A step's arguments.
+  pub arguments-found : (kind : ℕ) → count ≡ count_of kind → {rest : Bor (List ℕ)} → r ≡ Some rest → Some (record { value = step_with kind left; rest = rest.now }) ≡ read_arguments kind bs
+  unfolding read_arguments
+  arguments-found kind k e = line-found (step_with kind) e ∙ ap (λ m. chain (read_fields m bs) (λ xs rest. Some (record { value = step_with kind xs; rest = rest }))) k
+
+  pub arguments-lost : (kind : ℕ) → count ≡ count_of kind → r ≡ None → None ≡ read_arguments kind bs
+  unfolding read_arguments
+  arguments-lost kind k e = line-lost (step_with kind) e ∙ ap (λ m. chain (read_fields m bs) (λ xs rest. Some (record { value = step_with kind xs; rest = rest }))) k
+
+-- The sizes behind N: two numbers.
+module _ (bs : List ℕ) (n : ℕ) (left : List ℕ) {r : Option (Bor (List ℕ))} (found : fields_got left r ≡ read_fields 2 bs) where
+  pub sizes-lost : r ≡ None → None ≡ read_sizes_behind n bs
+  unfolding read_sizes_behind
+  sizes-lost e = line-lost bs 2 left found (λ xs. step_with 0 (n ∷ xs)) e
+
 -- ---- the sizes
 
 module _ (bs : List ℕ) where
-  pub sizes-none : None ≡ read_number bs → None ≡ line_words (read_sizes bs)
+  pub sizes-none : None ≡ read_number bs → None ≡ read_sizes bs
   unfolding read_sizes chain
-  sizes-none e = rw (← e)
+  sizes-none e = ap (λ o. chain o read_sizes_behind) e
 
   module _ {n : ℕ} {rest : List ℕ} (first : Some (record { value = n; rest = rest }) ≡ read_number bs) where
+    pub sizes-behind : read_sizes_behind n rest ≡ read_sizes bs
+    unfolding read_sizes chain
+    sizes-behind = ap (λ o. chain o read_sizes_behind) first
+
     pub sizes-unended : None ≡ read_fields 2 rest → None ≡ line_words (read_sizes bs)
     unfolding read_sizes read_sizes_behind chain
     sizes-unended e = rw (← first, ← e)
@@ -92,9 +146,9 @@ module _ (bs : List ℕ) where
 -- ---- a line
 
 module _ (text : List ℕ) (at : ℕ) where
-  pub line_first : at ≡ 0 → line_words (read_sizes text) ≡ line_words (read_line text at)
+  pub line_first : at ≡ 0 → read_sizes text ≡ read_line text at
   unfolding read_line
-  line_first e = rw (eq-eqb at 0 e)
+  line_first e = sym (cond-true (eqb at 0) _ _ (eq-eqb at 0 e))
 
   pub line-later : (at ≡ 0 → ⊥) → read_line text at ≡ read_step (drop at text)
   unfolding read_line
@@ -142,15 +196,19 @@ line-shorter text at {ws} {rest} = go (read_line text at) refl
     go None is e = none-some (sym e)
     go (Some g) is e = omega (arith, many text (ahead text at g is), ap length (ap (λ r. r.rest) (same_Some _ _ e)))
 
--- The promise of what reads a line settles it and the text behind it,
-pub line-settled : (found : Option (Got Step)) (r s : Option (List ℕ × Bor (List ℕ))) → got r ≡ line_words found → got s ≡ line_words found → Same r s
-line-settled found r s p q = go r s (p ∙ sym q)
+-- The promise of what reads a line settles it, the place at which the text goes on and the text there, but not where in memory a part of the
+-- text lies: so it is the words and the place that are equal, and not the references.
+pub line-settled : (text : List ℕ) (found : Option (Got Step)) (r s : Option (List ℕ × Bor (List ℕ))) → got r ≡ line_words found → got s ≡ line_words found
+    → (placed text r ≡ placed text s) × Same r s
+line-settled text found r s p q = go r s (p ∙ sym q)
   where
-    go : (r s : Option (List ℕ × Bor (List ℕ))) → got r ≡ got s → Same r s
-    go None None e = tt
+    go : (r s : Option (List ℕ × Bor (List ℕ))) → got r ≡ got s → (placed text r ≡ placed text s) × Same r s
+    go None None e = (refl, tt)
     go None (Some s) e = none-some e
     go (Some r) None e = none-some (sym e)
-    go (Some r) (Some s) e = let g = same_Some _ _ e in (ap (λ x. x.value) g, ap (λ x. x.rest) g)
+    go (Some r) (Some s) e =
+        let g = same_Some _ _ e in
+        (ap (λ x. Some (x.value, length text - length x.rest)) g, (ap (λ x. x.value) g, ap (λ x. x.rest) g))
 
 -- and that of a reader's step the line and the reader.
 pub next-settled : (before : Reader) {l l' : Option (List ℕ)} {after after' : Reader} → NextPromise before l after → NextPromise before l' after' → (l ≡ l') × (after ≡ after')

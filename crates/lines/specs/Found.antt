@@ -17,6 +17,11 @@ Same None (Some s) = ⊥
 Same (Some r) None = ⊥
 Same (Some r) (Some s) = (r.0 ≡ s.0) × (r.1.now ≡ s.1.now)
 
+-- The words that were read of a line, and the place at which a text goes on behind it, or nothing.
+abbrev pub placed : List ℕ → Option (List ℕ × Bor (List ℕ)) → Option (List ℕ × ℕ)
+placed text None = None
+placed text (Some r) = Some (r.0, length text - length r.1.now)
+
 -- The numbers that were put in words, and the text behind their line, or nothing.
 abbrev pub fields_got : List ℕ → Option (Bor (List ℕ)) → Option (Got (List ℕ))
 fields_got words None = None

@@ -22,6 +22,10 @@ pub record Adds (before : Page) (bytes : List ℕ) (after : Page) : Type 0 where
   pub long : length after.bytes.now ≡ length before.bytes.now
   pub puts : Puts before.bytes.now before.len bytes after.len after.bytes.now
 
+-- The line of the five words from a place on.
+unfoldable pub line_at : List ℕ → ℕ → List ℕ
+line_at ws at = numbers (get_or ws at 0) (get_or ws (at + 1) 0 ∷ get_or ws (at + 2) 0 ∷ get_or ws (at + 3) 0 ∷ get_or ws (at + 4) 0 ∷ [])
+
 -- The line of five words.
 unfoldable pub word_line : List ℕ → List ℕ
 word_line ws = numbers (get_or ws 0 0) (get_or ws 1 0 ∷ get_or ws 2 0 ∷ get_or ws 3 0 ∷ get_or ws 4 0 ∷ [])

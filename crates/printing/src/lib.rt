@@ -77,8 +77,10 @@ impl<'a> Page<'a> {
         requires { self.old.len + length words.now * 11 ≤ length self.old.bytes.now }
         ensures { Adds self.old (word_lines words.now) self.new }
     {
-        for answer in words.as_chunks::<5>().0 {
+        let mut rest = words;
+        while let Some(answer) = rest.first_chunk::<5>() {
             self.put_answer(answer);
+            rest = &rest[5..];
         }
     }
 }

@@ -1,5 +1,5 @@
 -- From what is printed to the reply. Assumes nothing.
-use Rattle.std.specs.Prelude.{ℕ, ◌+◌, ◌≤◌, Bool, true, false, List, [], ◌∷◌, ◌++◌, ◌↔◌, ◌≡◌, refl, take, drop, Result}
+use Rattle.std.specs.Prelude.{ℕ, ◌+◌, ◌*◌, ◌≤◌, Bool, true, false, List, [], ◌∷◌, ◌++◌, ◌↔◌, ◌≡◌, refl, take, drop, Result, Ok, Err, IfOk}
 use Rattle.std.proofs.Common.{⊎_elim, sym, ◌∙◌, ap₂, subst, arith, take_at}
 use Rattle.std.proofs.Math.Path.{ap}
 use borrow.Author.Tests.{leb-true, le-leb}
@@ -7,19 +7,25 @@ use Rattle.std.proofs.Math.ListN.{length, length-append}
 use Rattle.words.specs.Lists.{splice}
 use Rattle.words.specs.TestLaws.{and_left, and_right, either, true-not-false}
 use Rattle.tables.specs.Size.{Size}
+use Rattle.tables.specs.Shape.{shape}
 use Rattle.rules.specs.Step.{Answer, steps_of, answer_words}
 use Rattle.lines.specs.Decimal.{decimal, greatest}
 use Rattle.lines.proofs.DecimalLaws.{length-decimal}
 use Rattle.lines.specs.Line.{fields}
-use Rattle.printing.specs.Printed.{Adds, word_lines}
+use Rattle.printing.specs.Printed.{Puts, Adds, word_lines}
 use Rattle.printing.specs.declared.Page.{Page}
-use Rattle.script.specs.Reply.{answer_line, most_bytes, answer_lines, bad_line, Reply}
+use Rattle.script.specs.Reply.{answer_line, most_bytes, answer_lines, too_long, bad_line, Reply}
 use Rattle.script.specs.Collect.{whole, reply_for, reply_to}
 use Rattle.script.proofs.ReplyLaws.{reply-found, reply-settled, short-one}
 use Rattle.script.specs.Promised.{answers_of, Room, roomy, Replied, Misfits, ReplyPromise}
-use Rattle.script.specs.Listed.{collected_in, ListedPromise}
+use Rattle.script.specs.Listed.{collected_in, Fits, ListedPromise}
 use Rattle.script.specs.declared.collecting.Listed.{Listed}
 use Rattle.script.specs.declared.collecting.Fault.{Fault}
+use Rattle.script.specs.declared.collecting.Fault.TheVariants.{BadLine, TooLong}
+
+-- The same bytes.
+pub puts-as : {o bs cs e : List ℕ} {at r : ℕ} → bs ≡ cs → Puts o at bs r e → Puts o at cs r e
+puts-as {o} {e = e} {at = at} {r = r} same p = subst (λ xs. Puts o at xs r e) same p
 
 -- The lines of the words of answers are those of the answers.
 pub word_lines-answers : (rs : List Answer) → word_lines (answer_words rs) ≡ answer_lines rs
@@ -27,7 +33,11 @@ unfolding word_lines answer_words answer_lines answer_line
 word_lines-answers [] = refl
 word_lines-answers (r ∷ rs) = ap (λ (ls : List ℕ). answer_line r ++ ls) (word_lines-answers rs)
 
--- On a page.
+-- Put where the answers stand in words.
+pub puts-answers : {o ws e : List ℕ} {r : ℕ} (rs : List Answer) → ws ≡ answer_words rs → Puts o 0 (word_lines ws) r e → Puts o 0 (answer_lines rs) r e
+puts-answers rs is p = puts-as (ap word_lines is ∙ word_lines-answers rs) p
+
+-- The same bytes on a page.
 pub adds-as : {p q : Page} {bs cs : List ℕ} → bs ≡ cs → Adds p bs q → Adds p cs q
 adds-as {p} {q} same a = subst (λ xs. Adds p xs q) same a
 
@@ -49,6 +59,27 @@ listed-says text short found = ap reply_for found.found_is ∙ sym (short-one te
 pub listed-answers : (z : Size) (words : List ℕ) {ws : List ℕ} (n : ℕ) → ws ≡ answer_words (answers_of z (take n words)) → word_lines ws ≡ reply_for (whole z (steps_of (take n words)))
 unfolding reply_for answers_of
 listed-answers z words n is = ap word_lines is ∙ word_lines-answers _
+
+module _ (text : List ℕ) (short : length text ≤ most_bytes) {r : Result Listed Fault} {words : List ℕ} (found : ListedPromise text r words) where
+  pub listed-fits : {s : Listed} → r ≡ Ok s → Fits s
+  listed-fits e = subst (λ (x : Result Listed Fault). IfOk x (λ s. Fits s)) e found.fits
+
+  listed_is : {x : Result Listed Fault} → r ≡ x → reply_for (collected_in words x) ≡ reply_to text
+  listed_is e = ap (λ x. reply_for (collected_in words x)) (sym e) ∙ listed-says text short found
+
+  -- Printed from the buffer's start on.
+  module _ {o e : List ℕ} {m : ℕ} where
+    pub listed-whole : {s : Listed} → r ≡ Ok s → Puts o 0 (answer_lines (answers_of (shape s.sizes) (take (s.count * 5) words))) m e → Puts o 0 (reply_to text) m e
+    unfolding reply_for answers_of
+    listed-whole is put = puts-as (listed_is is) put
+
+    pub listed-bad : {k : ℕ} → r ≡ Err (BadLine k) → Puts o 0 (bad_line k) m e → Puts o 0 (reply_to text) m e
+    unfolding reply_for
+    listed-bad is put = puts-as (listed_is is) put
+
+    pub listed-longer : r ≡ Err TooLong → Puts o 0 too_long m e → Puts o 0 (reply_to text) m e
+    unfolding reply_for
+    listed-longer is put = puts-as (listed_is is) put
 
 -- ---- with room and without
 
@@ -78,18 +109,26 @@ module _ (table steps answers out : List ℕ) {ok : Bool} (is : ok ≡ roomy tab
   tested-room h = roomy-room table steps answers out (sym is ∙ h)
 
   module _ (text : List ℕ) where
-    pub replied : ok ≡ true → {start left : Page} {table' steps' answers' : List ℕ} → start.len ≡ 0 → start.bytes.now ≡ out → Adds start (reply_to text) left
-        → {count : ℕ} {out' : List ℕ} → count ≡ left.len → out' ≡ left.bytes.now → ReplyPromise text table steps answers out 0 count table' steps' answers' out'
+    pub replied : ok ≡ true → {count : ℕ} {table' steps' answers' out' : List ℕ} → Puts out 0 (reply_to text) count out'
+        → ReplyPromise text table steps answers out 0 count table' steps' answers' out'
     unfolding splice
-    replied h {start} {left} empty same p {out' = out'} counted last =
-        let bytes = reply_to text in
-        let written : out' ≡ bytes ++ drop (length bytes) out
-        = last ∙ p.puts.written ∙ ap₂ (λ at o. splice at (length bytes) o bytes) empty same in
+    replied h p =
         record {
-          with_room = λ _. record { bytes = bytes; is_reply = reply-found text; code_is = refl; count_is = omega (arith, p.puts.next, empty, counted); written = written };
+          with_room = λ _. record { bytes = reply_to text; is_reply = reply-found text; code_is = refl; count_is = omega (arith, p.next); written = p.written };
           without = λ small. absurd (small (tested-room h));
-          within = omega (arith, left.within, counted, ap length last);
+          within = omega (arith, p.next, ap length p.written, length-append (reply_to text) (drop (length (reply_to text)) out));
         }
+
+    -- With the reply on a page of `out`.
+    pub replied_on : ok ≡ true → {start left : Page} {table' steps' answers' : List ℕ} → start.len ≡ 0 → start.bytes.now ≡ out → Adds start (reply_to text) left
+        → {count : ℕ} {out' : List ℕ} → count ≡ left.len → out' ≡ left.bytes.now → ReplyPromise text table steps answers out 0 count table' steps' answers' out'
+    replied_on h {start} {left} empty same p {count} {out'} counted last =
+        let bytes = reply_to text in
+        replied h
+        (record {
+          written = last ∙ p.puts.written ∙ ap₂ (λ at o. splice at (length bytes) o bytes) empty same;
+          next = omega (arith, p.puts.next, empty, counted);
+        })
 
     pub refused : ok ≡ false → ReplyPromise text table steps answers out 8 0 table steps answers out
     refused h =

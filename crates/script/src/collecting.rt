@@ -41,7 +41,9 @@ pub fn collect(text: &[u8], steps: &mut [u32]) -> Result<Listed, Fault>
         }
         // The first step stands on line 2.
         let number = count as u32 + 2;
-        let step = reader.next().ok_or(Fault::BadLine(number))?;
+        let Some(step) = reader.next() else {
+            return Err(Fault::BadLine(number));
+        };
         words::put(steps, count, &step);
         count += 1;
     }

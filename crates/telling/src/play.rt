@@ -1,11 +1,13 @@
 // Playing a list of steps on a table: one after another, with what each one changed, or as a run.
 // A case's name, table and list are lent one by one: each call would make a struct of them, and each function take it apart.
+// A name is any bytes, lent as bytes or as text; it is written as it is.
 use crate::show::{self, Words};
+use std::convert::AsSlice;
 use std::io;
 use tables::refusal;
 
 // One step: its words, its answer, and what became of the table, which has at most 64 words: there is no heap for a copy of any length.
-fn step(rt: &impl Print, name: &str, t: &mut [u32], x: [u32; 5]) -> io::Result<()> {
+fn step(rt: &impl Print, name: &[u8], t: &mut [u32], x: [u32; 5]) -> io::Result<()> {
     let n = t.len();
     if 64 < n {
         return println!(rt; "no room");
@@ -14,7 +16,8 @@ fn step(rt: &impl Print, name: &str, t: &mut [u32], x: [u32; 5]) -> io::Result<(
     words::copy(t, &mut before);
     let [kind, a, b, c, d] = x;
     let outcome = steps::step(t, kind, a, b, c, d);
-    print!(rt; "{name}:{} ->{}", Words(&x), Words(&kinds::words(outcome)))?;
+    rt.write_all(name)?;
+    print!(rt; ":{} ->{}", Words(&x), Words(&kinds::words(outcome)))?;
     match outcome {
         Ok(_) => show::left(rt, &before[..n], t),
         Err(_) => show::kept(rt, &before[..n], t),
@@ -22,9 +25,14 @@ fn step(rt: &impl Print, name: &str, t: &mut [u32], x: [u32; 5]) -> io::Result<(
 }
 
 // The steps of a list, one after another.
-pub fn play(rt: &impl Print, name: &str, t: &mut [u32], list: &[[u32; 5]]) -> io::Result<()> {
+pub fn play(
+    rt: &impl Print,
+    name: impl AsSlice<u8> + Copy,
+    t: &mut [u32],
+    list: &[[u32; 5]],
+) -> io::Result<()> {
     for x in list {
-        step(rt, name, t, *x)?;
+        step(rt, name.as_slice(), t, *x)?;
     }
     Ok(())
 }
@@ -38,16 +46,19 @@ pub fn codes(rt: &impl Print, t: &mut [u32], list: &[[u32; 5]]) -> io::Result<()
     Ok(())
 }
 
-// A list as one run: its code, its answers and every word of the table. The answers are lent as `steps::run` takes them.
+// A script as one run: its code, its answers and every word of the table. Script and answers are lent as `steps::run` takes them, so they may
+// be of any lengths.
 pub fn run(
     rt: &impl Print,
-    name: &str,
+    name: impl AsSlice<u8> + Copy,
     t: &mut [u32],
-    list: &[[u32; 5]],
+    script: &[u32],
     answers: &mut [u32],
 ) -> io::Result<()> {
-    let code = refusal::code(steps::run(t, list.as_flattened(), answers));
-    println!(rt; "{name}, run: {code}")?;
+    let code = refusal::code(steps::run(t, script, answers));
+    rt.write_all(name.as_slice())?;
+    println!(rt; ", run: {code}")?;
     show::answers(rt, name, answers)?;
-    println!(rt; "{name}, table:{}", Words(t))
+    rt.write_all(name.as_slice())?;
+    println!(rt; ", table:{}", Words(t))
 }

@@ -1,4 +1,7 @@
 // What is printed of a case: numbers, and what became of the words that a call was lent.
+ghost use Rattle.std.specs.Prelude.{true, false, ◌≡◌};
+
+use std::convert::AsSlice;
 use std::{fmt, io};
 
 // Words as they are printed: each after a space.
@@ -15,16 +18,25 @@ impl fmt::Display for Words<'_> {
 }
 
 // Answers of five words, each on a line of its own.
-pub fn answers(rt: &impl Print, name: &str, all: &[u32]) -> io::Result<()> {
+pub fn answers(rt: &impl Print, name: impl AsSlice<u8> + Copy, all: &[u32]) -> io::Result<()> {
     for words in all.chunks_exact(5) {
-        println!(rt; "{name}, answer:{}", Words(words))?;
+        rt.write_all(name.as_slice())?;
+        println!(rt; ", answer:{}", Words(words))?;
     }
     Ok(())
 }
 
+// The same words? Whether a table was altered is told by this, so it is promised.
+fn same(a: &[u32], b: &[u32]) -> bool
+    ensures yes { result ≡ true → a.now ≡ b.now }
+    ensures no { result ≡ false → a.now ≡ b.now → ⊥ }
+{
+    a == b
+}
+
 // What a refusal did: was every word kept? This ends the line.
 pub fn kept(rt: &impl Print, before: &[u32], after: &[u32]) -> io::Result<()> {
-    if before == after {
+    if same(before, after) {
         println!(rt; " kept")
     } else {
         println!(rt; " ALTERED")
@@ -38,7 +50,7 @@ pub fn word_at(rt: &impl Print, i: usize, word: u32) -> io::Result<()> {
 
 // What an accepted call did: it kept every word, or it left these. This ends the line.
 pub fn left(rt: &impl Print, before: &[u32], after: &[u32]) -> io::Result<()> {
-    if before == after {
+    if same(before, after) {
         return println!(rt; " kept");
     }
     for (i, (old, new)) in before.iter().zip(after).enumerate() {

@@ -1,6 +1,6 @@
 -- `script::reply` meets its contract.
 use Rattle.std.proofs.Common.{refl, rules}
-use Rattle.script.proofs.PromisedLaws.{tested-room, replied, refused}
+use Rattle.script.proofs.PromisedLaws.{tested-room, replied_on, refused}
 use Rattle.script.proofs.reply.Goals as goal
 
 pub returns-then-not-has_room : goal.returns-then-not-has_room
@@ -23,4 +23,4 @@ put_reply-requires-clause-room c =
 pub returns : goal.returns
 returns c =
     let s = c.args in
-    replied s.table.now s.steps.now s.answers.now s.out.now c.has_room.ensures s.text.now c.if-not-has_room.false c.new-page.ensures.len_is c.new-page.ensures.bytes_are c.put_reply.ensures refl (search rules)
+    replied_on s.table.now s.steps.now s.answers.now s.out.now c.has_room.ensures s.text.now c.if-not-has_room.false c.new-page.ensures.len_is c.new-page.ensures.bytes_are c.put_reply.ensures refl (search rules)

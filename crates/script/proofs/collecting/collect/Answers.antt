@@ -1,5 +1,5 @@
 -- `script::collecting::collect` meets its contract.
-use Rattle.std.proofs.Common.{◌≡◌, ◌*◌, ◌+◌, ℕ, List, Option, drop, sym, ◌∙◌, ap, ap₂, subst, arith, rules}
+use Rattle.std.proofs.Common.{◌≡◌, ◌*◌, ◌+◌, ℕ, List, [], ◌∷◌, Option, drop, get_or, length, refl, sym, ◌∙◌, ap, ap₂, subst, arith, rules}
 use Rattle.std.specs.Borrow.{Bor}
 use Rattle.words.specs.Lists.{splice}
 use Rattle.tables.specs.Shape.{shape}
@@ -51,29 +51,44 @@ returns-then-count-eq-MOST_STEPS c =
     let inv = c.loop-reader.invariant in
     record { found_is = listing-longer _ _ inv.so c.loop-reader-test.true c.if-count-eq-MOST_STEPS.true; fits = tt }
 
-pub returns-in_err-step : goal.returns-in_err-step
-returns-in_err-step c =
+pub returns-in_default : goal.returns-in_default
+returns-in_default c =
     let inv = c.loop-reader.invariant in
-    let fails = c.in_err-step.ensures in
-    listed-fault c.args.text.now c.loop-reader.steps c.next-in-loop-reader.result c.in_err-step.field-0.0 _ c.from_residual-in_err-step.result fails.ok_part fails.value c.from_residual-in_err-step.ensures.1
-    (listing-bad _ _ inv.so c.loop-reader-test.true (omega (arith, inv.few, c.if-count-eq-MOST_STEPS.false))
-    (in_text c.args.text.now c.loop-reader.reader inv.same_text (next-bad c.loop-reader.reader c.next-in-loop-reader.new.self c.next-in-loop-reader.ensures fails.ok_part)))
+    record {
+      found_is =
+          listing-bad _ _ inv.so c.loop-reader-test.true (omega (arith, inv.few, c.if-count-eq-MOST_STEPS.false))
+          (in_text c.args.text.now c.loop-reader.reader inv.same_text (next-bad c.loop-reader.reader c.next-in-loop-reader.new.self c.in_default.ensures refl));
+      fits = tt;
+    }
+
+-- A step's five words, one by one.
+five : (ws : List ℕ) {k p q r s : ℕ} → length ws ≡ 5 → get_or ws 0 0 ≡ k → get_or ws 1 0 ≡ p → get_or ws 2 0 ≡ q → get_or ws 3 0 ≡ r → get_or ws 4 0 ≡ s → ws ≡ k ∷ p ∷ q ∷ r ∷ s ∷ []
+five [] long = absurd (omega arith)
+five (a ∷ []) long = absurd (omega arith)
+five (a ∷ b ∷ []) long = absurd (omega arith)
+five (a ∷ b ∷ c ∷ []) long = absurd (omega arith)
+five (a ∷ b ∷ c ∷ d ∷ []) long = absurd (omega arith)
+five (a ∷ b ∷ c ∷ d ∷ e ∷ []) long = λ h i j k l. λ n. h n ∷ i n ∷ j n ∷ k n ∷ l n ∷ []
+five (a ∷ b ∷ c ∷ d ∷ e ∷ f ∷ ws) long = absurd (omega arith)
 
 pub loop-reader-preserved : goal.loop-reader-preserved
 loop-reader-preserved c =
     let inv = c.loop-reader.invariant in
-    let went = next-good c.loop-reader.reader c.next-in-loop-reader.new.self c.next-in-loop-reader.ensures c.in_ok-step.ensures.ok_part in
+    let went = next-good c.loop-reader.reader c.next-in-loop-reader.new.self c.in-Some.ensures refl in
     let next = c.next-in-loop-reader.new.self in
     let on =
     listing-on _ _ inv.so c.loop-reader-test.true (omega (arith, inv.few, c.if-count-eq-MOST_STEPS.false)) (in_text c.args.text.now c.loop-reader.reader inv.same_text went.is)
     (ap (drop next.at) (sym inv.same_text) ∙ went.rest_is) inv.long in
+    let words = went.words_are in
     record {
       same_text = ap (λ t. t.now) went.text_is ∙ inv.same_text;
       few = omega (arith, inv.few, c.if-count-eq-MOST_STEPS.false);
       long = omega (arith, inv.long);
       so =
           subst (λ ws. Listing c.args.text.now (shape c.new-sizes.result) (c.loop-reader.count + 1) ws next.at)
-          (sym (c.put.ensures ∙ ap (splice (c.loop-reader.count * 5) 5 c.loop-reader.steps) went.words_are)) on;
+          (sym (c.put.ensures ∙ ap (splice (c.loop-reader.count * 5) 5 c.loop-reader.steps)
+          (five _ (search rules) (ap (λ ws. get_or ws 0 0) words) (ap (λ ws. get_or ws 1 0) words) (ap (λ ws. get_or ws 2 0) words) (ap (λ ws. get_or ws 3 0) words) (ap (λ ws. get_or ws 4 0) words))))
+          on;
     }
 
 pub returns : goal.returns
